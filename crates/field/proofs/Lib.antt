@@ -1,0 +1,9 @@
+pub mod Bilinear
+pub mod Ring
+pub mod Remainder
+pub mod Power
+pub mod Tests
+pub mod Inverses
+pub mod Polynomial
+pub mod Laws
+pub mod Turns

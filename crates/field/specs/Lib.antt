@@ -1,0 +1,4 @@
+pub mod Mul
+pub mod Power
+pub mod Polynomial
+pub mod Laws

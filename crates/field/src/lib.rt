@@ -1,0 +1,127 @@
+// The fields of 16 and 64 elements. The width is public; elements decide no branch and no index in `mul` and `square`.
+ghost use mathlib.Core.Path.{_≡_};
+ghost use Prim.Native.Nat.{_^_, _<_};
+ghost use lib.ListN.{length, getD};
+ghost use Rattle.field.specs.Mul as spec;
+ghost use Rattle.field.specs.Mul.{Width};
+ghost use Rattle.field.specs.Power as power;
+ghost use Rattle.field.specs.Polynomial.{exponents};
+
+// The exponents of polynomials of width 4 and of width 6: 0, then the classes of 1, 3 and, at width 6, 11.
+pub const EXPONENTS_4: [u8; 9] = [0, 1, 2, 4, 8, 3, 6, 12, 9];
+
+pub const EXPONENTS_6: [u8; 19] = [
+    0,
+    1,
+    2,
+    4,
+    8,
+    16,
+    32,
+    3,
+    6,
+    12,
+    24,
+    48,
+    33,
+    11,
+    22,
+    44,
+    25,
+    50,
+    37,
+];
+
+// Exponent number i of the width's list.
+pub fn exponent(width: u32, i: usize) -> u8
+    requires { ⌜ Width width ⌝ }
+    requires { ⌜ i < length (exponents width) ⌝ }
+    ensures { λ r. ⌜ r ≡ getD (exponents width) i 0 ⌝ }
+{
+    if width == 4 {
+        EXPONENTS_4[i]
+    } else {
+        EXPONENTS_6[i]
+    }
+}
+
+// y times a, for every byte a: the bits below the top one move up, and the top one is reduced.
+fn double(width: u32, a: u8) -> u8
+    requires { ⌜ Width width ⌝ }
+    ensures { λ r. ⌜ r ≡ spec.double width a ⌝ }
+{
+    if width == 4 {
+        (a % 8 * 2) ^ (a / 8 % 2 * 3)
+    } else {
+        (a % 32 * 2) ^ (a / 32 % 2 * 3)
+    }
+}
+
+// The product by double and add, the lowest bit of b first.
+fn double_and_add(width: u32, a: u8, b: u8) -> u8
+    requires { ⌜ Width width ⌝ }
+    ensures { λ r. ⌜ r ≡ spec.mul width a b ⌝ }
+{
+    let mut sum: u8 = 0;
+    let mut x = a;
+    let mut rest = b;
+    let mut k: u32 = 0;
+    while k < width {
+        sum = sum ^ (x * (rest % 2));
+        x = double(width, x);
+        rest = rest / 2;
+        k += 1;
+    }
+    sum
+}
+
+// The product of a and b, for all bytes. The width is tested outside the loop, so that the loop is of known length at each width.
+pub fn mul(width: u32, a: u8, b: u8) -> u8
+    requires { ⌜ Width width ⌝ }
+    ensures { λ r. ⌜ r ≡ spec.mul width a b ⌝ }
+{
+    if width == 4 {
+        double_and_add(4, a, b)
+    } else {
+        double_and_add(6, a, b)
+    }
+}
+
+// The square of a.
+pub fn square(width: u32, a: u8) -> u8
+    requires { ⌜ Width width ⌝ }
+    ensures { λ r. ⌜ r ≡ power.square width a ⌝ }
+{
+    mul(width, a, a)
+}
+
+// a to the power e, by e products: for public values.
+pub fn pow(width: u32, a: u8, e: u8) -> u8
+    requires { ⌜ Width width ⌝ }
+    ensures { λ r. ⌜ r ≡ power.pow width a e ⌝ }
+{
+    let mut product: u8 = 1;
+    let mut i: u8 = 0;
+    while i < e {
+        product = mul(width, a, product);
+        i += 1;
+    }
+    product
+}
+
+// The inverse of an element but 0, as the product of a ^ 2, a ^ 4, a ^ 8 ..; of 0 it is 0.
+pub fn inverse(width: u32, a: u8) -> u8
+    requires { ⌜ Width width ⌝ }
+    requires { ⌜ a < 2 ^ width ⌝ }
+    ensures { λ r. ⌜ r ≡ power.inverse width a ⌝ }
+{
+    let mut power = mul(width, a, a);
+    let mut product = power;
+    let mut k: u32 = 2;
+    while k < width {
+        power = mul(width, power, power);
+        product = mul(width, product, power);
+        k += 1;
+    }
+    product
+}

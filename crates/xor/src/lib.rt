@@ -1,0 +1,1 @@
+// Definitions and laws alone: addition of elements is the language's `^`.

@@ -4,8 +4,14 @@ use mathlib.Core.List.{List, map, flatten}
 use Prim.Native.Nat.{ℕ}
 use Rattle.field.specs.Polynomial.{classes, exponents, combination, value}
 use Rattle.field.proofs.Inverses.{products}
+use Rattle.xor.specs.Sum.{join}
+use Rattle.steps.specs.Program.{_>>=_, _>>_, note, random, loop, for, first, later, result}
+use Rattle.steps.specs.Fill.{tabulate}
+use Rattle.steps.specs.Operations.{column, maskedByte, splitShares}
+use Rattle.product.specs.Product.{start, pair, row, product}
 use Rattle.paper.specs.Cases.{Case, houseBasis, table}
 
 pub cases : map (λ (c : Case). c .given) table ≡ map (λ (c : Case). c .said) table
-unfolding table houseBasis products classes flatten exponents combination value
+unfolding table houseBasis products classes flatten exponents combination value join
+    _>>=_ _>>_ note random loop for first later result start pair row product tabulate column maskedByte splitShares
 cases = refl

@@ -1,8 +1,12 @@
 -- The checks on paper, as one table of what the definitions give and what the paper says.
 use mathlib.Core.List.{List, [], _∷_}
 use Prim.Native.Nat.{ℕ}
+use Rattle.xor.specs.Sum.{join}
 use Rattle.field.specs.Mul.{mul}
 use Rattle.field.specs.Polynomial.{value}
+use Rattle.steps.specs.Program.{result}
+use Rattle.steps.specs.Operations.{splitShares}
+use Rattle.product.specs.Product.{product}
 
 -- a row: what the definitions give, and what the paper says of it
 pub record Case : Type 0 where
@@ -16,12 +20,20 @@ row g s = record { given = g; said = s }
 unfoldable pub houseBasis : List ℕ
 houseBasis = 0 ∷ 1 ∷ 1 ∷ 0 ∷ 0 ∷ 0 ∷ 0 ∷ 1 ∷ 0 ∷ []
 
--- (a), (b), (c): products at width 4; (d): at width 6; (i): q1 of the house basis at 2
+-- three shares of two factors, and three random elements
+abbrev pub maskedProduct : List ℕ
+maskedProduct = result (product 4 3 (1 ∷ 2 ∷ 0 ∷ []) (4 ∷ 0 ∷ 1 ∷ [])) (1 ∷ 2 ∷ 3 ∷ [])
+
+-- (a), (b), (c): products at width 4; (d): at width 6; (e): a masked product, and what it joins to; (i): q1 of the house basis at 2;
+-- (l): a value split by masks. A sharing is held in nine places
 unfoldable pub table : List Case
 table =
     row (mul 4 2 8 ∷ []) (3 ∷ [])
     ∷ row (mul 4 9 9 ∷ []) (13 ∷ [])
     ∷ row (mul 4 15 15 ∷ []) (10 ∷ [])
     ∷ row (mul 6 32 32 ∷ []) (48 ∷ [])
+    ∷ row maskedProduct (7 ∷ 10 ∷ 2 ∷ 0 ∷ 0 ∷ 0 ∷ 0 ∷ 0 ∷ 0 ∷ [])
+    ∷ row (join maskedProduct ∷ mul 4 3 5 ∷ []) (15 ∷ 15 ∷ [])
     ∷ row (value 4 houseBasis 2 ∷ []) (9 ∷ [])
+    ∷ row (splitShares 3 (7 ∷ []) (1 ∷ 2 ∷ [])) (4 ∷ 1 ∷ 2 ∷ [])
     ∷ []

@@ -1,9 +1,11 @@
 -- What an operation answers, in the paper's terms.
+-- Each operation has an enum of its own for its answer. A definition beside the operation gives the outcome that each case stands for, and
+-- the operation's contract settles that outcome for every argument.
 use mathlib.Core.Bool.{Bool, true, false}
 use mathlib.Core.List.{List}
+use mathlib.Core.Path.{_≡_}
 use Prim.Native.Nat.{ℕ}
 
--- each operation's answer is an enum of its own; a definition beside it gives the outcome that each case stands for
 pub data Outcome : Type 0 where
   -- success, with the numbers that the operation hands back, in the paper's order
   done : List ℕ → Outcome
@@ -14,3 +16,14 @@ pub data Outcome : Type 0 where
 abbrev pub test : Bool → ℕ → ℕ → Outcome → Outcome
 test true number place next = next
 test false number place next = refused number place
+
+-- what a slice lent for output holds in the end: what the operation writes or, where it is refused, what it held before
+abbrev pub written : Outcome → List ℕ → List ℕ → List ℕ
+written (done numbers) new old = new
+written (refused number place) new old = old
+
+-- The contract of an operation with one slice lent for output. It is to answer `outcome` and to write `new`: its answer reports the outcome,
+-- and the slice, which held `old`, holds `left`.
+pub record Answered (outcome : Outcome) (new old : List ℕ) (report : Outcome) (left : List ℕ) : Type 0 where
+  pub answer : report ≡ outcome
+  pub output : left ≡ written outcome new old

@@ -1,6 +1,17 @@
 // The tests that operations share.
 ghost use mathlib.Core.Path.{_≡_};
+ghost use Rattle.refusal.specs.Range.{oneTo};
 ghost use Rattle.refusal.specs.Large.{firstLarge};
+
+// Whether x is one of the numbers 1 to `most`.
+pub fn one_to(most: usize, x: usize) -> bool
+    ensures { λ r. ⌜ r ≡ oneTo most x ⌝ }
+{
+    if x < 1 {
+        return false;
+    }
+    x <= most
+}
 
 // The place of the first entry that is not below the bound, or the length if there is none.
 pub fn first_large(bound: u8, entries: &[u8]) -> usize

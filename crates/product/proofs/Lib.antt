@@ -1,0 +1,4 @@
+pub mod Bilinear
+pub mod Shape
+pub mod Counts
+pub mod Coupling

@@ -1,0 +1,35 @@
+-- Tests that pass and fail, and the two ways in which an operation with one output slice returns.
+use mathlib.Core.Path.{_≡_, refl, sym, _∙_}
+use mathlib.Core.Bool.{Bool, true, false, not}
+use mathlib.Core.List.{List}
+use Prim.Native.Nat.{ℕ}
+use native.Mathlib.Omega.{arith}
+use borrow.Author.Tests.{not-true, not-false}
+use Rattle.refusal.specs.Outcome.{Outcome, done, refused, test, Answered}
+
+-- a test b that code computes as r, where code goes on by `!r`
+pub test-fails : {r b : Bool} → r ≡ b → not r ≡ true → b ≡ false
+test-fails {r} e h = sym e ∙ not-true r h
+
+pub test-passes : {r b : Bool} → r ≡ b → not r ≡ false → b ≡ true
+test-passes {r} e h = sym e ∙ not-false r h
+
+-- where an operation succeeds, its first test passes and the rest succeeds
+pub passed : (b : Bool) (number place : ℕ) (next : Outcome) {numbers : List ℕ}
+    → test b number place next ≡ done numbers
+    → (b ≡ true) × (next ≡ done numbers)
+passed true number place next e = (refl, e)
+passed false number place next e = let z : _≡_ {A = ℕ} 0 1 = cc in absurd (omega arith)
+
+-- the operation is refused, and has written nothing
+pub refuses : {outcome : Outcome} {number place : ℕ} {new old : List ℕ}
+    → outcome ≡ refused number place
+    → Answered outcome new old (refused number place) old
+refuses e = record { answer = sym e; output = rw e }
+
+-- the operation succeeds, and has written its output
+pub succeeds : {outcome : Outcome} {numbers : List ℕ} {new old left : List ℕ}
+    → outcome ≡ done numbers
+    → left ≡ new
+    → Answered outcome new old (done numbers) left
+succeeds e f = record { answer = sym e; output = rw (e, f) }

@@ -1,0 +1,15 @@
+pub mod Tests
+pub mod Program
+pub mod Choices
+pub mod Shape
+pub mod Watch
+pub mod Coupling
+pub mod Sharing
+pub mod Split
+pub mod Secrecy
+pub mod Recorder
+pub mod Tape
+pub mod Machine
+pub mod Loop
+pub mod Fill
+pub mod Operations

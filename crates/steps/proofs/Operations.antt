@@ -1,0 +1,118 @@
+-- The laws of Split and Join: the bytes of each share, and that joining what Split writes gives the value.
+use mathlib.Core.Path.{_≡_, refl, ap, ap₂, _∙_}
+use mathlib.Core.Bool.{true}
+use mathlib.Core.List.{List, [], _∷_, _++_}
+use Prim.Native.Nat.{ℕ, zero, suc, _+_, _-_, _*_, _≤_, _<_}
+use native.Mathlib.Nat.{suc-mul, add-assoc, not-suc-le-zero, mul-le-mul}
+use native.Mathlib.Numerals.{add-one}
+use native.Mathlib.Omega.{arith}
+use borrow.Author.Tests.{eqb-true, eq-eqb}
+use lib.ListN.{length, getD, length-append, List·getD-append}
+use lib.Seq.{getD-append-add}
+use Rattle.xor.specs.Xor.{_⊕_}
+use Rattle.xor.specs.Sum.{join}
+use Rattle.xor.proofs.Sum.{join-nil, join-cons, join-split}
+use Rattle.refusal.specs.Outcome.{done}
+use Rattle.refusal.specs.Range.{oneTo}
+use Rattle.steps.specs.Fill.{tabulate}
+use Rattle.steps.specs.Operations.{column, maskedByte, splitShares, splitOutcome, joinedByte, joinShares, joinOutcome}
+use Rattle.refusal.proofs.Outcome.{passed}
+use Rattle.refusal.proofs.Range.{one-to-range}
+use Rattle.steps.proofs.Fill.{length-tabulate, getD-tabulate, tabulate-same, tabulate-getD}
+
+-- up to nine shares of up to 16 bytes
+pub few-bytes : {s n : ℕ} → s ≤ 9 → n ≤ 16 → s * n ≤ 144
+few-bytes hs hn = mul-le-mul hs hn
+
+-- k strings of n bytes are k - 1 of them and one
+pub times-turn : (k n : ℕ) → 0 < k → k * n ≡ (k - 1) * n + n
+times-turn zero n h = absurd (not-suc-le-zero h)
+times-turn (suc k) n h = let e : suc k - 1 ≡ k = omega arith in rw (e, suc-mul)
+
+-- a column of a list that has another before it
+pub column-append : (a l : List ℕ) (n j k : ℕ) → column (a ++ l) n (length a + j) k ≡ column l n j k
+unfolding column
+column-append a l n j zero = refl
+column-append a l n j (suc k) =
+    ap₂ (λ (x : ℕ) (c : List ℕ). x ∷ c) (getD-append-add a l j 0) (rw add-assoc (column-append a l n (j + n) k))
+
+-- one turn of the loop that adds a column up, and its end
+pub column-turn : (l : List ℕ) (n at k : ℕ) → 0 < k → join (column l n at k) ≡ getD l at 0 ⊕ join (column l n (at + n) (k - 1))
+unfolding column
+column-turn l n at zero h = absurd (not-suc-le-zero h)
+column-turn l n at (suc k) h = let e : suc k - 1 ≡ k = omega arith in rw e (join-cons (getD l at 0) (column l n (at + n) k))
+
+pub column-end : (l : List ℕ) (n at k : ℕ) → k ≤ 0 → join (column l n at k) ≡ 0
+unfolding column
+column-end l n at zero h = join-nil
+column-end l n at (suc k) h = absurd (omega arith)
+
+-- ---- what Split writes
+
+module _ (s : ℕ) (value masks : List ℕ) where
+  -- share 0
+  first : List ℕ
+  first = tabulate (length value) (maskedByte value (s - 1) masks)
+
+  length-first : length first ≡ length value
+  unfolding first
+  length-first = length-tabulate (length value) (maskedByte value (s - 1) masks)
+
+  -- byte j of share 0 is that of the value plus that of every mask
+  pub split-first : (j : ℕ) → j < length value
+      → getD (splitShares s value masks) j 0 ≡ getD value j 0 ⊕ join (column masks (length value) j (s - 1))
+  unfolding splitShares maskedByte first
+  split-first j h =
+      List·getD-append first _ 0 j (omega (arith, length-first))
+      ∙ getD-tabulate (length value) (maskedByte value (s - 1) masks) j 0 h
+
+  -- byte j of share i + 1 is that of mask i
+  pub split-other : (i j : ℕ) → getD (splitShares s value masks) ((i + 1) * length value + j) 0 ≡ getD masks (i * length value + j) 0
+  unfolding splitShares first
+  split-other i j =
+      let e : (i + 1) * length value + j ≡ length first + (i * length value + j) = rw (add-one i) (omega (arith, length-first, suc-mul i (length value))) in
+      rw e (getD-append-add first masks (i * length value + j) 0)
+
+  pub length-split : 0 < s → length masks ≡ (s - 1) * length value → length (splitShares s value masks) ≡ s * length value
+  unfolding splitShares first
+  length-split h e = omega (arith, length-append first masks, length-first, times-turn s (length value) h)
+
+-- the column of the shares of byte j: that of share 0, and then those of the masks
+split-column : (k : ℕ) (value masks : List ℕ) (j : ℕ) → j < length value
+    → column (splitShares (suc k) value masks) (length value) j (suc k)
+    ≡ getD value j 0 ⊕ join (column masks (length value) j k) ∷ column masks (length value) j k
+unfolding column splitShares first
+split-column k value masks j h =
+    let e : suc k - 1 ≡ k = omega arith in
+    let next : j + length value ≡ length (first (suc k) value masks) + j = omega (arith, length-first (suc k) value masks) in
+    ap₂ (λ (x : ℕ) (l : List ℕ). x ∷ l) (split-first (suc k) value masks j h ∙ ap (λ (i : ℕ). getD value j 0 ⊕ join (column masks (length value) j i)) e)
+    (rw next (column-append (first (suc k) value masks) masks (length value) j k))
+
+-- joining what Split writes gives the value, whatever the masks are
+pub join-of-split : (s : ℕ) (value masks : List ℕ) → 0 < s → joinShares (length value) s (splitShares s value masks) ≡ value
+unfolding joinShares joinedByte
+join-of-split zero value masks h = absurd (not-suc-le-zero h)
+join-of-split (suc k) value masks h =
+    tabulate-same (length value) (joinedByte (length value) (suc k) (splitShares (suc k) value masks)) (λ j. getD value j 0)
+    (λ j l. ap join (split-column k value masks j l) ∙ join-split (getD value j 0) (column masks (length value) j k))
+    ∙ tabulate-getD value 0
+
+-- where Split succeeds, its arguments pass the tests
+pub split-succeeds : (n s masks out : ℕ) → splitOutcome n s masks out ≡ done []
+    → (oneTo 9 s ≡ true) × (oneTo 16 n ≡ true) × (masks ≡ (s - 1) * n) × (out ≡ s * n)
+unfolding splitOutcome
+split-succeeds n s masks out e =
+    let count = passed _ _ _ _ e in
+    let size = passed _ _ _ _ (count .1) in
+    let rest = passed _ _ _ _ (size .1) in
+    (count .0, size .0, eqb-true _ _ (rest .0), eqb-true _ _ (passed _ _ _ _ (rest .1) .0))
+
+-- what Split writes where it succeeds, Join takes
+pub join-takes-split : (s : ℕ) (value masks : List ℕ) (out : ℕ)
+    → splitOutcome (length value) s (length masks) out ≡ done []
+    → joinOutcome (length (splitShares s value masks)) s (length value) ≡ done []
+unfolding joinOutcome
+join-takes-split s value masks out e =
+    let h = split-succeeds (length value) s (length masks) out e in
+    let total = length-split s value masks (one-to-range 9 s (h .0) .0) (h .2) in
+    rw (h .0, h .1, eq-eqb (length (splitShares s value masks)) (s * length value) total)

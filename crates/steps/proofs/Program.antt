@@ -1,0 +1,77 @@
+-- The laws of programs: what one program and then another comes to, and the turns of a loop.
+use mathlib.Core.Path.{_≡_, refl, sym, ap}
+use mathlib.Core.List.{List, [], _∷_, _++_}
+use Prim.Native.Nat.{ℕ, suc, _+_, _-_, _≤_, _<_}
+use native.Mathlib.Omega.{arith}
+use lib.ListN.{length, drop}
+use lib.Seq.{drop-nil}
+use Rattle.steps.specs.Program.{Run, done, step, draw, mark, _>>=_, loop, for, first, later, Entry, result, trace, draws, products, rest}
+
+-- ---- one program, and then another
+
+pub result-bind : {A B : Type 0} (m : Run A) (f : A → Run B) (tape : List ℕ) → result (m >>= f) tape ≡ result (f (result m tape)) (rest m tape)
+unfolding result rest _>>=_
+result-bind (done a) f tape = refl
+result-bind (step t v m) f tape = result-bind m f tape
+result-bind (draw b k) f tape = result-bind (k (first tape)) f (later tape)
+result-bind (mark m) f tape = result-bind m f tape
+
+pub trace-bind : {A B : Type 0} (m : Run A) (f : A → Run B) (tape : List ℕ)
+    → trace (m >>= f) tape ≡ trace m tape ++ trace (f (result m tape)) (rest m tape)
+unfolding result trace rest _>>=_
+trace-bind (done a) f tape = refl
+trace-bind (step t v m) f tape = ap (λ (l : List Entry). record { touch = t; value = v } ∷ l) (trace-bind m f tape)
+trace-bind (draw b k) f tape = trace-bind (k (first tape)) f (later tape)
+trace-bind (mark m) f tape = trace-bind m f tape
+
+pub draws-bind : {A B : Type 0} (m : Run A) (f : A → Run B) (tape : List ℕ)
+    → draws (m >>= f) tape ≡ draws m tape ++ draws (f (result m tape)) (rest m tape)
+unfolding result draws rest _>>=_
+draws-bind (done a) f tape = refl
+draws-bind (step t v m) f tape = draws-bind m f tape
+draws-bind (draw b k) f tape = ap (λ (l : List ℕ). b ∷ l) (draws-bind (k (first tape)) f (later tape))
+draws-bind (mark m) f tape = draws-bind m f tape
+
+pub rest-bind : {A B : Type 0} (m : Run A) (f : A → Run B) (tape : List ℕ) → rest (m >>= f) tape ≡ rest (f (result m tape)) (rest m tape)
+unfolding result rest _>>=_
+rest-bind (done a) f tape = refl
+rest-bind (step t v m) f tape = rest-bind m f tape
+rest-bind (draw b k) f tape = rest-bind (k (first tape)) f (later tape)
+rest-bind (mark m) f tape = rest-bind m f tape
+
+-- the second program's steps are counted from where the first ended
+pub products-bind : {A B : Type 0} (i : ℕ) (m : Run A) (f : A → Run B) (tape : List ℕ)
+    → products i (m >>= f) tape ≡ products i m tape ++ products (i + length (trace m tape)) (f (result m tape)) (rest m tape)
+unfolding result trace products rest _>>=_
+products-bind i (done a) f tape = let e : i + 0 ≡ i = omega arith in rw e
+products-bind i (step t v m) f tape =
+    let e : i + suc (length (trace m tape)) ≡ i + 1 + length (trace m tape) = omega arith in
+    rw e (products-bind (i + 1) m f tape)
+products-bind i (draw b k) f tape = products-bind i (k (first tape)) f (later tape)
+products-bind i (mark m) f tape = ap (λ (l : List ℕ). i ∷ l) (products-bind i m f tape)
+
+-- grouping does not matter
+pub bind-bind : {A B C : Type 0} (m : Run A) (f : A → Run B) (g : B → Run C) → ((m >>= f) >>= g) ≡ (m >>= (λ a. f a >>= g))
+unfolding _>>=_
+bind-bind (done a) f g = refl
+bind-bind (step t v m) f g = ap (step t v) (bind-bind m f g)
+bind-bind (draw b k) f g = ap (draw b) (λ i r. bind-bind (k r) f g i)
+bind-bind (mark m) f g = ap mark (bind-bind m f g)
+
+-- ---- loops
+
+-- a loop whose first turn is i, and one that is at its end
+pub for-turn : {A : Type 0} (i s : ℕ) (f : ℕ → A → Run A) (a : A) → i < s → for i s f a ≡ (f i a >>= for (i + 1) s f)
+unfolding for loop
+for-turn i s f a h = let e : s - i ≡ suc (s - (i + 1)) = omega arith in rw e
+
+pub for-end : {A : Type 0} (i s : ℕ) (f : ℕ → A → Run A) (a : A) → s ≤ i → for i s f a ≡ done a
+unfolding for loop
+for-end i s f a h = let e : s - i ≡ 0 = omega arith in rw e
+
+-- ---- tapes
+
+pub drop-later : (k : ℕ) (tape : List ℕ) → drop (suc k) tape ≡ drop k (later tape)
+unfolding later
+drop-later k [] = sym (drop-nil k)
+drop-later k (r ∷ tape) = refl

@@ -1,0 +1,12 @@
+-- The laws of the tape.
+use mathlib.Core.Path.{_≡_}
+use mathlib.Core.List.{List}
+use Prim.Native.Nat.{ℕ, _≤_}
+use native.Mathlib.Omega.{arith}
+use lib.ListN.{length}
+use Rattle.steps.specs.Tape.{elements, bytesFor}
+
+-- as many bytes as hold so many elements give them
+pub elements-enough : (width : ℕ) (bytes : List ℕ) (count : ℕ) → length bytes ≡ bytesFor width count → count ≤ length (elements width bytes)
+unfolding elements bytesFor
+elements-enough width bytes count e = omega arith

@@ -1,0 +1,13 @@
+pub mod Program
+pub mod Watch
+pub mod Choices
+pub mod Shape
+pub mod Sharing
+pub mod Coupling
+pub mod Split
+pub mod Recorder
+pub mod Tape
+pub mod Machine
+pub mod Loop
+pub mod Fill
+pub mod Operations

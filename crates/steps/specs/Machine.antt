@@ -1,0 +1,63 @@
+-- The machine: a program run as code runs it, from the counts and the values that it is handed to those that it leaves.
+use mathlib.Core.Path.{_≡_}
+use mathlib.Core.List.{List}
+use Prim.Native.Nat.{ℕ, _+_, _^_, _≤_, _<_}
+use lib.ListN.{length, getD}
+use Rattle.steps.specs.declared.counts.Counts.{Counts}
+use Rattle.steps.specs.Program.{Run, done, step, draw, mark, result, trace, draws, products}
+use Rattle.steps.specs.Recorder.{seen}
+
+-- the counts after one more product, one more draw, one more step
+abbrev pub oneProduct : Counts → Counts
+oneProduct n = record { products = n .products + 1; random = n .random; steps = n .steps }
+
+abbrev pub oneDraw : Counts → Counts
+oneDraw n = record { products = n .products; random = n .random + 1; steps = n .steps }
+
+abbrev pub oneStep : Counts → Counts
+oneStep n = record { products = n .products; random = n .random; steps = n .steps + 1 }
+
+-- the counts at the start
+abbrev pub start : Counts
+start = record { products = 0; random = 0; steps = 0 }
+
+-- where a run ends: its result, and the counts and the values then
+pub data Ended (A : Type 0) : Type 0 where
+  ended : A → Counts → List ℕ → Ended A
+
+-- a program run on a tape under a watch list, from counts and values: a draw takes the element whose number is the count of draws so far,
+-- and a step has the number that is the count of steps so far
+unfoldable pub exec : {A : Type 0} → List ℕ → List ℕ → Run A → Counts → List ℕ → Ended A
+exec tape watch (done a) n vs = ended a n vs
+exec tape watch (step t v m) n vs = exec tape watch m (oneStep n) (seen watch (n .steps) v vs)
+exec tape watch (draw b f) n vs = exec tape watch (f (getD tape (n .random) 0)) (oneDraw n) vs
+exec tape watch (mark m) n vs = exec tape watch m (oneProduct n) vs
+
+-- the machine goes on from where a program ended, with the program that its result gives
+abbrev pub onward : {A B : Type 0} → List ℕ → List ℕ → Ended A → (A → Run B) → Ended B
+onward tape watch (ended a n vs) f = exec tape watch (f a) n vs
+
+-- ---- the contract of a function that runs a part of a program, which takes so many products, draws and steps
+
+-- Before: the counts will fit their types, there are random elements enough, and each watched number has a place for its value.
+pub record Ready (products draws steps : ℕ) (n : Counts) (tape watch vs : List ℕ) : Type 0 where
+  pub products-fit : n .products + products < 2 ^ 64
+  pub draws-fit : n .random + draws < 2 ^ 64
+  pub steps-fit : n .steps + steps < 2 ^ 32
+  pub enough : n .random + draws ≤ length tape
+  pub places : length watch ≡ length vs
+
+-- After: the program m, run from the counts n and the values vs, has ended in x with the counts n′ and the values vs′, and has taken so many.
+pub record Went {A : Type 0} (products draws steps : ℕ) (tape watch : List ℕ) (m : Run A) (n : Counts) (vs : List ℕ)
+    (x : A) (n′ : Counts) (vs′ : List ℕ) : Type 0 where
+  pub runs : exec tape watch m n vs ≡ ended x n′ vs′
+  pub took-products : n′ .products ≡ n .products + products
+  pub took-draws : n′ .random ≡ n .random + draws
+  pub took-steps : n′ .steps ≡ n .steps + steps
+
+-- A run from the start, in terms of its program: the result, and the counts as the lengths of its lists of products, draws and steps.
+pub record Whole {A : Type 0} (tape : List ℕ) (m : Run A) (x : A) (n : Counts) : Type 0 where
+  pub result-is : x ≡ result m tape
+  pub products-are : n .products ≡ length (products 0 m tape)
+  pub draws-are : n .random ≡ length (draws m tape)
+  pub steps-are : n .steps ≡ length (trace m tape)

@@ -1,0 +1,28 @@
+-- Splitting a secret with masks that are drawn: a choice of document 01 begins with these draws.
+use mathlib.Core.List.{List, [], _∷_}
+use Prim.Native.Nat.{ℕ, zero, suc, _-_}
+use Rattle.xor.specs.Xor.{_⊕_}
+use Rattle.xor.specs.Sum.{join}
+use Rattle.steps.specs.Program.{Run, done, _>>=_, random}
+
+-- k masks of n bits, in the order drawn
+unfoldable pub masks : ℕ → ℕ → Run (List ℕ)
+masks n zero = done []
+masks n (suc k) = do
+  r ← random n
+  l ← masks n k
+  done (r ∷ l)
+
+-- a secret of n bits in s shares: shares 1 to s - 1 are masks, share 0 is the secret plus all masks
+unfoldable pub split : ℕ → ℕ → ℕ → Run (List ℕ)
+split n s x = do
+  l ← masks n (s - 1)
+  done (x ⊕ join l ∷ l)
+
+-- several secrets of n bits, one after the other
+unfoldable pub splitAll : ℕ → ℕ → List ℕ → Run (List (List ℕ))
+splitAll n s [] = done []
+splitAll n s (x ∷ xs) = do
+  a ← split n s x
+  l ← splitAll n s xs
+  done (a ∷ l)

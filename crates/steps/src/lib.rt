@@ -1,0 +1,14 @@
+// Steps of masked computations in code: the counts that a run carries, its random elements and its recorder.
+// The operations Split and Join are `splitting::split` and `joining::join`.
+mod columns;
+pub mod counts;
+pub mod drawing;
+pub mod joining;
+pub mod recording;
+pub mod splitting;
+
+pub use counts::Counts;
+pub use drawing::bytes_for;
+pub use drawing::draw;
+pub use recording::record;
+pub use recording::record_all;

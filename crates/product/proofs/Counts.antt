@@ -8,12 +8,8 @@ use lib.ListN.{replicate}
 use Rattle.steps.specs.Program.{one}
 use Rattle.steps.specs.Shape.{stepOf, marked, Shape, touchesOf, bitsOf, stepsOf, drawsOf, productsOf, Counting, Uniform, forShape}
 use Rattle.steps.proofs.Shape.{counts-steps, counts-draws, counts-products, counts-for, for-shape-turn, for-shape-end, uniform-append, uniform-for}
+use Rattle.product.specs.Counts.{pairs}
 use Rattle.product.specs.Product.{pairShape, rowShape, productShape}
-
--- the pairs among k shares
-pairs : ℕ → ℕ
-pairs zero = 0
-pairs (suc k) = k + pairs k
 
 twice-pairs : (k : ℕ) → pairs k * 2 + k ≡ k * k
 unfolding pairs
@@ -26,7 +22,7 @@ twice-pairs (suc k) =
 pairs-double : (s : ℕ) → s * (s - 1) ≡ pairs s * 2
 pairs-double s = let h = twice-pairs s in mul-sub s s 1 ∙ ap (λ (x : ℕ). s * s - x) (mul-one s) ∙ omega arith
 
-pairs-is : (s : ℕ) → pairs s ≡ s * (s - 1) / 2
+pub pairs-is : (s : ℕ) → pairs s ≡ s * (s - 1) / 2
 pairs-is s = sym (ap (λ (x : ℕ). x / 2) (pairs-double s) ∙ mul-div-cancel (pairs s) (zero-lt-suc 1))
 
 -- the half is exact

@@ -2,3 +2,4 @@ pub mod Bilinear
 pub mod Shape
 pub mod Counts
 pub mod Coupling
+pub mod Runs

@@ -1,1 +1,202 @@
-// The masked product.
+// The masked product of two sharings. A sharing is held in nine bytes, 0 past the shares in use.
+ghost use Prim.Native.Nat.{_+_, _<_, _≤_};
+ghost use Rattle.field.specs.Mul.{Width};
+ghost use Rattle.steps.specs.Program.{for};
+ghost use Rattle.steps.specs.Tape.{elements};
+ghost use Rattle.steps.specs.Machine.{Ready, Went};
+ghost use Rattle.steps.specs.Loop.{each};
+ghost use Rattle.product.specs.Counts.{eachPair};
+ghost use Rattle.product.specs.Product as spec;
+use steps::Counts;
+
+// A sharing, with what the run has taken when it is made.
+pub struct Masked {
+    pub shares: [u8; 9],
+    pub counts: Counts,
+}
+
+// The seven steps of the pair of shares i and j.
+fn pair(
+    width: u32,
+    a: &[u8; 9],
+    b: &[u8; 9],
+    i: usize,
+    j: usize,
+    random: &[u8],
+    watch: &[u32],
+    values: &mut [u8],
+    c: &mut [u8; 9],
+    n: Counts,
+) -> Counts
+    requires { ⌜ Width width ⌝ }
+    requires { ⌜ (i < 9) × (j < 9) ⌝ }
+    requires { ⌜ Ready 0 1 7 n (elements width (now random)) (now watch) (now values) ⌝ }
+    ensures { λ r. ⌜ Went 0 1 7 (elements width (now (random .entry))) (now (watch .entry))
+        (spec.pair width (now (a .entry)) (now (b .entry)) i j (now (c .entry)))
+        n (now (values .entry)) (now (c .exit)) r (now (values .exit)) ⌝ }
+{
+    let at = n.random;
+    let r = steps::draw(width, random, at);
+    let x = field::mul(width, a[i], b[j]);
+    let y = r ^ x;
+    let z = field::mul(width, a[j], b[i]);
+    let q = y ^ z;
+    let u = c[i] ^ r;
+    let v = c[j] ^ q;
+    let next = steps::record_all(watch, values, n.steps, &[r, x, y, z, q, u, v]);
+    c[i] = u;
+    c[j] = v;
+    let drawn = at + 1;
+    Counts {
+        products: n.products,
+        random: drawn,
+        steps: next,
+    }
+}
+
+// The pairs of share i with each share after it.
+fn row(
+    width: u32,
+    s: usize,
+    a: &[u8; 9],
+    b: &[u8; 9],
+    i: usize,
+    random: &[u8],
+    watch: &[u32],
+    values: &mut [u8],
+    c: &mut [u8; 9],
+    n: Counts,
+) -> Counts
+    requires { ⌜ Width width ⌝ }
+    requires { ⌜ (i < s) × (s ≤ 9) ⌝ }
+    requires { ⌜ Ready 0 (each 1 s (i + 1)) (each 7 s (i + 1)) n (elements width (now random)) (now watch) (now values) ⌝ }
+    ensures { λ r. ⌜ Went 0 (each 1 s (i + 1)) (each 7 s (i + 1)) (elements width (now (random .entry))) (now (watch .entry))
+        (spec.row width s (now (a .entry)) (now (b .entry)) i (now (c .entry)))
+        n (now (values .entry)) (now (c .exit)) r (now (values .exit)) ⌝ }
+{
+    let mut n = n;
+    let mut j = i + 1;
+    while j < s {
+        n = pair(width, a, b, i, j, random, watch, &mut *values, &mut *c, n);
+        j += 1;
+    }
+    n
+}
+
+// The pairs of every share with each share after it.
+fn rows(
+    width: u32,
+    s: usize,
+    a: &[u8; 9],
+    b: &[u8; 9],
+    random: &[u8],
+    watch: &[u32],
+    values: &mut [u8],
+    c: &mut [u8; 9],
+    n: Counts,
+) -> Counts
+    requires { ⌜ Width width ⌝ }
+    requires { ⌜ s ≤ 9 ⌝ }
+    requires { ⌜ Ready 0 (eachPair 1 s 0) (eachPair 7 s 0) n (elements width (now random)) (now watch) (now values) ⌝ }
+    ensures { λ r. ⌜ Went 0 (eachPair 1 s 0) (eachPair 7 s 0) (elements width (now (random .entry))) (now (watch .entry))
+        (for 0 s (spec.row width s (now (a .entry)) (now (b .entry))) (now (c .entry)))
+        n (now (values .entry)) (now (c .exit)) r (now (values .exit)) ⌝ }
+{
+    let mut n = n;
+    let mut i = 0;
+    while i < s {
+        n = row(width, s, a, b, i, random, watch, &mut *values, &mut *c, n);
+        i += 1;
+    }
+    n
+}
+
+// The product of share i of a and share i of b.
+fn start(
+    width: u32,
+    a: &[u8; 9],
+    b: &[u8; 9],
+    i: usize,
+    random: &[u8],
+    watch: &[u32],
+    values: &mut [u8],
+    c: &mut [u8; 9],
+    n: Counts,
+) -> Counts
+    requires { ⌜ Width width ⌝ }
+    requires { ⌜ i < 9 ⌝ }
+    requires { ⌜ Ready 0 0 1 n (elements width (now random)) (now watch) (now values) ⌝ }
+    ensures { λ r. ⌜ Went 0 0 1 (elements width (now (random .entry))) (now (watch .entry))
+        (spec.start width (now (a .entry)) (now (b .entry)) i (now (c .entry)))
+        n (now (values .entry)) (now (c .exit)) r (now (values .exit)) ⌝ }
+{
+    let v = field::mul(width, a[i], b[i]);
+    let next = steps::record(watch, values, n.steps, v);
+    c[i] = v;
+    Counts {
+        products: n.products,
+        random: n.random,
+        steps: next,
+    }
+}
+
+// The product of each share of a and the same share of b.
+fn starts(
+    width: u32,
+    s: usize,
+    a: &[u8; 9],
+    b: &[u8; 9],
+    random: &[u8],
+    watch: &[u32],
+    values: &mut [u8],
+    c: &mut [u8; 9],
+    n: Counts,
+) -> Counts
+    requires { ⌜ Width width ⌝ }
+    requires { ⌜ s ≤ 9 ⌝ }
+    requires { ⌜ Ready 0 0 (each 1 s 0) n (elements width (now random)) (now watch) (now values) ⌝ }
+    ensures { λ r. ⌜ Went 0 0 (each 1 s 0) (elements width (now (random .entry))) (now (watch .entry))
+        (for 0 s (spec.start width (now (a .entry)) (now (b .entry))) (now (c .entry)))
+        n (now (values .entry)) (now (c .exit)) r (now (values .exit)) ⌝ }
+{
+    let mut n = n;
+    let mut i = 0;
+    while i < s {
+        n = start(width, a, b, i, random, watch, &mut *values, &mut *c, n);
+        i += 1;
+    }
+    n
+}
+
+// The masked product of the sharings a and b, of s shares.
+pub fn product(
+    width: u32,
+    s: usize,
+    a: &[u8; 9],
+    b: &[u8; 9],
+    random: &[u8],
+    watch: &[u32],
+    values: &mut [u8],
+    n: Counts,
+) -> Masked
+    requires { ⌜ Width width ⌝ }
+    requires { ⌜ s ≤ 9 ⌝ }
+    requires { ⌜ Ready 1 (eachPair 1 s 0) (each 1 s 0 + eachPair 7 s 0) n (elements width (now random)) (now watch) (now values) ⌝ }
+    ensures { λ r. ⌜ Went 1 (eachPair 1 s 0) (each 1 s 0 + eachPair 7 s 0) (elements width (now (random .entry))) (now (watch .entry))
+        (spec.product width s (now (a .entry)) (now (b .entry)))
+        n (now (values .entry)) (r .shares) (r .counts) (now (values .exit)) ⌝ }
+{
+    let mut c = [0u8; 9];
+    let begun = n.products + 1;
+    let n = Counts {
+        products: begun,
+        random: n.random,
+        steps: n.steps,
+    };
+    let n = starts(width, s, a, b, random, watch, &mut *values, &mut c, n);
+    let n = rows(width, s, a, b, random, watch, values, &mut c, n);
+    Masked {
+        shares: c,
+        counts: n,
+    }
+}

@@ -34,6 +34,13 @@ module _ (tape watch : List ℕ) where
   unfolding exec
   done-runs n vs e = rw e
 
+  -- a masked product begins
+  pub mark-runs : {A : Type 0} (m : Run A) (n : Counts) (vs : List ℕ) {e : Ended A}
+      → exec tape watch m (oneProduct n) vs ≡ e
+      → exec tape watch (mark m) n vs ≡ e
+  unfolding exec
+  mark-runs m n vs p = p
+
   -- The turn of a loop, and its end. X is where the loop ends: what is left of it from here says so, and then what is left after the turn.
   module _ {A : Type 0} {X : Ended A} (i s : ℕ) (f : ℕ → A → Run A) (a : A) (n : Counts) (vs : List ℕ) where
     pub for-turn : {a′ : A} {n′ : Counts} {vs′ : List ℕ}

@@ -1,0 +1,81 @@
+-- `product::pair` meets its contract: its steps are those of the definition.
+use mathlib.Core.Path.{refl}
+use borrow.Author.Needs.{needs}
+use Rattle.product.proofs.Runs.{pair-runs}
+use Rattle.product.proofs.pair.Statement.{statement}
+use Rattle.product.proofs.pair.Tie as tie
+
+draw-requires : tie.Need-draw-requires
+draw-requires c κs = search needs
+
+element-copy-out-mul : tie.Need-element-copy-out-mul
+element-copy-out-mul c = search needs
+
+element-copy-out-mul-2 : tie.Need-element-copy-out-mul-2
+element-copy-out-mul-2 c = search needs
+
+mul-requires : tie.Need-mul-requires
+mul-requires c κs = search needs
+
+element-copy-out-mul-3 : tie.Need-element-copy-out-mul-3
+element-copy-out-mul-3 c = search needs
+
+element-copy-out-mul-4 : tie.Need-element-copy-out-mul-4
+element-copy-out-mul-4 c = search needs
+
+mul-requires-2 : tie.Need-mul-requires-2
+mul-requires-2 c κs = search needs
+
+element-copy-out-u : tie.Need-element-copy-out-u
+element-copy-out-u c = search needs
+
+element-copy-out-v : tie.Need-element-copy-out-v
+element-copy-out-v c = search needs
+
+slice-aggregate-record-all : tie.Need-slice-aggregate-record-all
+slice-aggregate-record-all c = search needs
+
+record-all-requires : tie.Need-record-all-requires
+record-all-requires c κs = search needs
+
+element-write-c : tie.Need-element-write-c
+element-write-c c = search needs
+
+element-write-c-2 : tie.Need-element-write-c-2
+element-write-c-2 c = search needs
+
+add-drawn : tie.Need-add-drawn
+add-drawn c = search needs
+
+same-length : tie.Need-same-length
+same-length c = search needs
+
+returns : tie.Need-returns
+returns c =
+    record {
+      runs = pair-runs _ _ _ _ _ _ _ _ _ _ _ _ _ _ _ (search needs) (search needs) (search needs) (search needs) (search needs);
+      took-products = search needs;
+      took-draws = refl;
+      took-steps = search needs;
+    }
+
+pub pair-spec : {M : Type 1} → statement M
+pair-spec =
+    tie.close
+    (tie.spec
+    draw-requires
+    element-copy-out-mul
+    element-copy-out-mul-2
+    mul-requires
+    element-copy-out-mul-3
+    element-copy-out-mul-4
+    mul-requires-2
+    element-copy-out-u
+    element-copy-out-v
+    slice-aggregate-record-all
+    record-all-requires
+    element-write-c
+    element-write-c-2
+    add-drawn
+    same-length
+    returns)

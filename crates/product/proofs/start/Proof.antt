@@ -1,0 +1,39 @@
+-- `product::start` meets its contract: its step is that of the definition.
+use borrow.Author.Needs.{needs}
+use Rattle.product.proofs.Runs.{start-runs}
+use Rattle.product.proofs.start.Statement.{statement}
+use Rattle.product.proofs.start.Tie as tie
+
+element-copy-out-mul : tie.Need-element-copy-out-mul
+element-copy-out-mul c = search needs
+
+element-copy-out-mul-2 : tie.Need-element-copy-out-mul-2
+element-copy-out-mul-2 c = search needs
+
+mul-requires : tie.Need-mul-requires
+mul-requires c κs = search needs
+
+record-requires : tie.Need-record-requires
+record-requires c κs = search needs
+
+element-write-c : tie.Need-element-write-c
+element-write-c c = search needs
+
+same-length : tie.Need-same-length
+same-length c = search needs
+
+returns : tie.Need-returns
+returns c =
+    record { runs = search start-runs; took-products = search needs; took-draws = search needs; took-steps = search needs }
+
+pub start-spec : {M : Type 1} → statement M
+start-spec =
+    tie.close
+    (tie.spec
+    element-copy-out-mul
+    element-copy-out-mul-2
+    mul-requires
+    record-requires
+    element-write-c
+    same-length
+    returns)

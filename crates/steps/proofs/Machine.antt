@@ -9,7 +9,7 @@ use Rattle.steps.specs.declared.counts.Counts.{Counts}
 use Rattle.steps.specs.Program.{Run, done, step, draw, mark, _>>=_, loop, for, first, later, Entry, result, trace, draws, products}
 use Rattle.steps.specs.Watch.{values, watched}
 use Rattle.steps.specs.Recorder.{seen, observed, AllBelow}
-use Rattle.steps.specs.Machine.{oneProduct, oneDraw, oneStep, start, Ended, ended, exec, onward, Went, Whole}
+use Rattle.steps.specs.Machine.{oneProduct, oneDraw, oneStep, zeroCounts, Ended, ended, exec, onward, Went, Whole}
 use Rattle.steps.proofs.Recorder.{observed-watched}
 
 module _ (tape watch : List ℕ) where
@@ -106,9 +106,9 @@ module _ (tape watch : List ℕ) where
 -- ---- a run from the start, said of its program
 
 module _ {A : Type 0} {p q r : ℕ} {tape watch : List ℕ} {m : Run A} {vs : List ℕ} {x : A} {n : Counts} {vs′ : List ℕ} where
-  pub went-whole : Went p q r tape watch m start vs x n vs′ → Whole tape m x n
+  pub went-whole : Went p q r tape watch m zeroCounts vs x n vs′ → Whole tape m x n
   went-whole w =
-      let e = exec-whole tape watch m start vs in
+      let e = exec-whole tape watch m zeroCounts vs in
       let f = w .runs in
       let ps : n .products ≡ 0 + length (products 0 m tape) = cc in
       let ds : n .random ≡ 0 + length (draws m tape) = cc in
@@ -116,9 +116,9 @@ module _ {A : Type 0} {p q r : ℕ} {tape watch : List ℕ} {m : Run A} {vs : Li
       record { result-is = cc; products-are = omega arith; draws-are = omega arith; steps-are = omega arith }
 
   -- what a run leaves in the values, where each watched number is that of one of its steps
-  pub went-watched : Went p q r tape watch m start vs x n vs′ → length watch ≡ length vs → AllBelow r watch → vs′ ≡ watched watch (trace m tape)
+  pub went-watched : Went p q r tape watch m zeroCounts vs x n vs′ → length watch ≡ length vs → AllBelow r watch → vs′ ≡ watched watch (trace m tape)
   went-watched w l b =
-      let e = exec-whole tape watch m start vs in
+      let e = exec-whole tape watch m zeroCounts vs in
       let f = w .runs in
       let left : vs′ ≡ observed watch 0 (values (trace m tape)) vs = cc in
       let count : r ≡ length (values (trace m tape)) = rw length-map (omega (arith, w .took-steps, went-whole w .steps-are)) in

@@ -17,9 +17,9 @@ oneDraw n = record { products = n .products; random = n .random + 1; steps = n .
 abbrev pub oneStep : Counts → Counts
 oneStep n = record { products = n .products; random = n .random; steps = n .steps + 1 }
 
--- the counts at the start
-abbrev pub start : Counts
-start = record { products = 0; random = 0; steps = 0 }
+-- the counts at the start of a run
+abbrev pub zeroCounts : Counts
+zeroCounts = record { products = 0; random = 0; steps = 0 }
 
 -- where a run ends: its result, and the counts and the values then
 pub data Ended (A : Type 0) : Type 0 where

@@ -9,9 +9,12 @@ use Rattle.steps.specs.Program.{_>>=_, _>>_, note, random, loop, for, first, la
 use Rattle.steps.specs.Fill.{tabulate}
 use Rattle.steps.specs.Operations.{column, maskedByte, splitShares}
 use Rattle.product.specs.Product.{start, pair, row, product}
+use Rattle.present.specs.Present.{turns, iterate, nibble, replace, onNibble, substitute, place, rotate, onTopNibbles, roundNumber, updateKey}
+use Rattle.present.specs.Present as present
 use Rattle.paper.specs.Cases.{Case, houseBasis, table}
 
 pub cases : map (λ (c : Case). c .given) table ≡ map (λ (c : Case). c .said) table
 unfolding table houseBasis products classes flatten exponents combination value join
     _>>=_ _>>_ note random loop for first later result start pair row product tabulate column maskedByte splitShares
+    turns iterate nibble replace onNibble present.table substitute place rotate onTopNibbles roundNumber updateKey
 cases = refl

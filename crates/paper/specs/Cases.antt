@@ -7,6 +7,7 @@ use Rattle.field.specs.Polynomial.{value}
 use Rattle.steps.specs.Program.{result}
 use Rattle.steps.specs.Operations.{splitShares}
 use Rattle.product.specs.Product.{product}
+use Rattle.present.specs.Present.{place, size80, updateKey}
 
 -- a row: what the definitions give, and what the paper says of it
 pub record Case : Type 0 where
@@ -24,8 +25,8 @@ houseBasis = 0 ∷ 1 ∷ 1 ∷ 0 ∷ 0 ∷ 0 ∷ 0 ∷ 1 ∷ 0 ∷ []
 abbrev pub maskedProduct : List ℕ
 maskedProduct = result (product 4 3 (1 ∷ 2 ∷ 0 ∷ []) (4 ∷ 0 ∷ 1 ∷ [])) (1 ∷ 2 ∷ 3 ∷ [])
 
--- (a), (b), (c): products at width 4; (d): at width 6; (e): a masked product, and what it joins to; (i): q1 of the house basis at 2;
--- (l): a value split by masks. A sharing is held in nine places
+-- (a), (b), (c): products at width 4; (d): at width 6; (e): a masked product, and what it joins to; (f), (g): where bits 4
+-- and 62 go; (h): the zero key after one update; (i): q1 of the house basis at 2; (l): a value split by masks. A sharing is held in nine places
 unfoldable pub table : List Case
 table =
     row (mul 4 2 8 ∷ []) (3 ∷ [])
@@ -34,6 +35,9 @@ table =
     ∷ row (mul 6 32 32 ∷ []) (48 ∷ [])
     ∷ row maskedProduct (7 ∷ 10 ∷ 2 ∷ 0 ∷ 0 ∷ 0 ∷ 0 ∷ 0 ∷ 0 ∷ [])
     ∷ row (join maskedProduct ∷ mul 4 3 5 ∷ []) (15 ∷ 15 ∷ [])
+    ∷ row (place 4 ∷ []) (1 ∷ [])
+    ∷ row (place 62 ∷ []) (47 ∷ [])
+    ∷ row (updateKey size80 1 0 ∷ []) (0xC0000000000000008000 ∷ [])
     ∷ row (value 4 houseBasis 2 ∷ []) (9 ∷ [])
     ∷ row (splitShares 3 (7 ∷ []) (1 ∷ 2 ∷ [])) (4 ∷ 1 ∷ 2 ∷ [])
     ∷ []

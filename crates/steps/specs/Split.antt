@@ -1,4 +1,4 @@
--- Splitting a secret with masks that are drawn: a choice of document 01 begins with these draws.
+-- Splitting a secret with masks that are drawn: a choice of the paper begins with these draws.
 use mathlib.Core.List.{List, [], _∷_}
 use Prim.Native.Nat.{ℕ, zero, suc, _-_}
 use Rattle.xor.specs.Xor.{_⊕_}

@@ -1,0 +1,84 @@
+-- How many steps, draws and masked products a masked block has, over those of the S-box.
+use mathlib.Core.Path.{_≡_, refl, ap, ap₂, _∙_}
+use mathlib.Core.List.{[], _∷_}
+use Prim.Native.Nat.{ℕ, _+_, _-_, _*_}
+use native.Mathlib.Nat.{sub-zero}
+use native.Mathlib.Omega.{arith}
+use lib.ListN.{replicate}
+use Rattle.steps.specs.Program.{one}
+use Rattle.steps.specs.Shape.{stepOf, Shape, touchesOf, bitsOf, stepsOf, drawsOf, productsOf, Counting, Uniform}
+use Rattle.steps.proofs.Shape.{counts-steps, counts-draws, counts-products, counts-for, uniform-append, uniform-for}
+use Rattle.present.specs.Present.{Size, numberNibble, size80}
+use Rattle.present.specs.Masked.{nibblesShape, sharesShape, updateShape, roundShape, blockShape}
+
+-- a count that is q for each step of one share
+module _ {f : Shape → ℕ} (c : Counting f) (q : ℕ) (h : (i : ℕ) → f (stepOf (one i) ∷ []) ≡ q) where
+  counts-nibbles : (i k n : ℕ) → f (nibblesShape i k n) ≡ (n - k) * q
+  unfolding nibblesShape
+  counts-nibbles i k n = counts-for c q k n (λ j. stepOf (one i) ∷ []) (λ j. h i)
+
+  pub counts-shares : (n s : ℕ) → f (sharesShape n s) ≡ s * (n * q)
+  unfolding sharesShape
+  counts-shares n s = counts-for c (n * q) 0 s (λ i. nibblesShape i 0 n) (λ i. counts-nibbles i 0 n ∙ rw sub-zero) ∙ rw sub-zero
+
+  module _ (z : Size) (s : ℕ) (σ : Shape) where
+    pub counts-update : f (updateShape z s σ) ≡ s * (z .nibbles * q) + (z .boxes * f σ + 2 * q)
+    unfolding updateShape
+    counts-update =
+        let two : numberNibble z + 2 - numberNibble z ≡ 2 = omega arith in
+        c .both _ _ ∙ ap₂ _+_ (counts-shares (z .nibbles) s)
+        (c .both _ _ ∙ ap₂ _+_ (counts-for c (f σ) 0 (z .boxes) (λ j. σ) (λ j. refl) ∙ rw sub-zero)
+        (counts-nibbles 0 (numberNibble z) (numberNibble z + 2) ∙ rw two))
+
+    pub counts-round : f (roundShape z s σ) ≡ s * (16 * q) + (16 * f σ + (s * (16 * q) + (s * (z .nibbles * q) + (z .boxes * f σ + 2 * q))))
+    unfolding roundShape
+    counts-round =
+        c .both _ _ ∙ ap₂ _+_ (counts-shares 16 s)
+        (c .both _ _ ∙ ap₂ _+_ (counts-for c (f σ) 0 16 (λ k. σ) (λ k. refl)) (c .both _ _ ∙ ap₂ _+_ (counts-shares 16 s) counts-update))
+
+    pub counts-block : f (blockShape z s σ)
+        ≡ 31 * (s * (16 * q) + (16 * f σ + (s * (16 * q) + (s * (z .nibbles * q) + (z .boxes * f σ + 2 * q))))) + s * (16 * q)
+    unfolding blockShape
+    counts-block = c .both _ _ ∙ ap₂ _+_ (counts-for c _ 1 32 (λ r. roundShape z s σ) (λ r. counts-round)) (counts-shares 16 s)
+
+-- ---- PRESENT-80
+
+module _ (s : ℕ) (σ : Shape) where
+  pub block-steps : stepsOf (blockShape size80 s σ) ≡ 31 * (52 * s + 17 * stepsOf σ + 2) + 16 * s
+  unfolding touchesOf
+  block-steps = counts-block counts-steps 1 (λ i. refl) size80 s σ ∙ omega arith
+
+  pub block-draws : drawsOf (blockShape size80 s σ) ≡ 31 * (17 * drawsOf σ)
+  unfolding bitsOf
+  block-draws = counts-block counts-draws 0 (λ i. refl) size80 s σ ∙ omega arith
+
+  pub block-products : productsOf (blockShape size80 s σ) ≡ 31 * (17 * productsOf σ)
+  unfolding productsOf
+  block-products = counts-block counts-products 0 (λ i. refl) size80 s σ ∙ omega arith
+
+-- ---- the draws are of 4 bits if those of the S-box are
+
+module _ (n : ℕ) where
+  uniform-nibbles : (i k m : ℕ) → Uniform n (nibblesShape i k m)
+  unfolding nibblesShape bitsOf
+  uniform-nibbles i k m = uniform-for n k m (λ j. stepOf (one i) ∷ []) (λ j. refl)
+
+  uniform-shares : (m s : ℕ) → Uniform n (sharesShape m s)
+  unfolding sharesShape
+  uniform-shares m s = uniform-for n 0 s (λ i. nibblesShape i 0 m) (λ i. uniform-nibbles i 0 m)
+
+  pub uniform-block : (z : Size) (s : ℕ) (σ : Shape) → Uniform n σ → Uniform n (blockShape z s σ)
+  unfolding blockShape roundShape updateShape
+  uniform-block z s σ h =
+      uniform-append n _ _
+      (uniform-for n 1 32 (λ r. roundShape z s σ) (λ r.
+      uniform-append n _ _ (uniform-shares 16 s)
+      (uniform-append n _ _ (uniform-for n 0 16 (λ k. σ) (λ k. h))
+      (uniform-append n _ _ (uniform-shares 16 s)
+      (uniform-append n _ _ (uniform-shares (z .nibbles) s)
+      (uniform-append n _ _ (uniform-for n 0 (z .boxes) (λ j. σ) (λ j. h)) (uniform-nibbles 0 (numberNibble z) (numberNibble z + 2))))))))
+      (uniform-shares 16 s)
+
+-- the random elements of a block of PRESENT-80, in bits
+pub block-bits : (s : ℕ) (σ : Shape) → Uniform 4 σ → bitsOf (blockShape size80 s σ) ≡ replicate (31 * (17 * drawsOf σ)) 4
+block-bits s σ h = uniform-block 4 size80 s σ h ∙ ap (λ (k : ℕ). replicate k 4) (block-draws s σ)

@@ -1,0 +1,10 @@
+pub mod Numbers
+pub mod Bytes
+pub mod Sharing
+pub mod Recording
+pub mod Joined
+pub mod Counts
+pub mod Coupled
+pub mod Secrecy
+pub mod Experiment
+pub mod Vectors

@@ -1,0 +1,1 @@
+// PRESENT-80 and its masked program: definitions and laws, no code.

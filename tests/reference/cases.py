@@ -1,0 +1,900 @@
+"""The inputs of the cases: valid, at the edges and damaged, all from fixed seeds.
+
+Each function NAME_cases yields the inputs of one operation after another. What
+the operation answers is worked out when the case is written down.
+"""
+
+from decomposition import (
+    FIRST_COEFFICIENT,
+    HOUSE_BASIS,
+    PARTS,
+    RECORD_LENGTH,
+    WORK_LENGTH,
+    basis_length,
+    cut,
+    form_at,
+    pack_record,
+    solve,
+)
+from field import EXPONENTS, PRODUCT, evaluate
+from operations import split
+from present import SBOX, vectors
+from prng import Prng
+from steps import block_random, block_steps, sbox_random, sbox_steps
+
+WIDTHS = (4, 6)
+SHARE_COUNTS = range(1, 10)
+PRESENT_TABLE = bytes(SBOX)
+
+# Refused share counts. Some have a low byte, or low two bytes, that would do.
+WRONG_SHARE_COUNTS = (0, 10, 11, 16, 127, 128, 255, 256, 257, 259, 265, 65535, 65536)
+WRONG_SHARE_COUNTS += (65537, 2**24 + 3, 2**31, 2**31 + 1, 2**32 - 1)
+WRONG_WIDTHS = (0, 1, 2, 3, 5, 7, 8, 10, 16, 64, 255, 256, 260, 262, 65540, 2**32 - 1)
+
+
+# --------------------------------------------------------------- small helpers
+
+
+def put(data, place, value):
+    return data[:place] + bytes([value]) + data[place + 1 :]
+
+
+def one_off(length):
+    return [n for n in (length - 1, length + 1) if n >= 0]
+
+
+def resize(prng, data, length, limit):
+    """The same data cut short, or with entries from 1 to limit - 1 put after it."""
+    more = max(0, length - len(data))
+    return data[:length] + bytes(1 + prng.below(limit - 1) for _ in range(more))
+
+
+def change_length(prng, inputs, place, length, limit=256):
+    changed = list(inputs)
+    changed[place] = resize(prng, inputs[place], length, limit)
+    return tuple(changed)
+
+
+def large(prng, limit):
+    """An entry that is too large: at the limit, at the top, or between."""
+    return prng.pick((limit, 255, limit + prng.below(256 - limit)))
+
+
+def sharing(prng, value, s):
+    masks = prng.bytes(len(value) * (s - 1))
+    return split(value, s, masks, bytes(len(value) * s)).outputs[0]
+
+
+# --------------------------------------------------------------------- records
+
+
+def zero_record(width):
+    return pack_record(width, bytes(basis_length(width)), bytes(p_length(width)))
+
+
+def p_length(width):
+    return PARTS[width] * len(EXPONENTS[width])
+
+
+def random_record(prng, width):
+    basis = prng.elements(2**width, basis_length(width))
+    return pack_record(width, basis, prng.elements(2**width, p_length(width)))
+
+
+def full_record(width):
+    """Every coefficient the largest there is."""
+    top = 2**width - 1
+    return pack_record(width, [top] * basis_length(width), [top] * p_length(width))
+
+
+def table_of(record):
+    return bytes(form_at(record, x) for x in range(2 ** record[5]))
+
+
+def house_record(table):
+    return pack_record(4, HOUSE_BASIS, solve(4, table, HOUSE_BASIS))
+
+
+def fitted_record(prng, table):
+    """A width 4 record for the table, with a random basis."""
+    while True:
+        basis = prng.elements(16, 9)
+        p = solve(4, table, basis)
+        if p is not None:
+            return pack_record(4, basis, p)
+
+
+def twin_record(record, c, d):
+    """Another record of the same form at width 4, one that Fit would not give.
+
+    c added to p1 is met by c*q1 added to p2; d*q1 added to p1 is met by d*q1^2
+    added to p2, and the squares of the listed powers are listed themselves.
+    """
+    q, p1, p2 = (list(part) for part in cut(4, record[FIRST_COEFFICIENT:]))
+    times = PRODUCT[4]
+    p1[0] ^= c
+    for k, exponent in enumerate(EXPONENTS[4]):
+        p1[k] ^= times[d][q[k]]
+        p2[k] ^= times[c][q[k]]
+        double = EXPONENTS[4].index(exponent * 2 % 15)
+        p2[double] ^= times[d][times[q[k]][q[k]]]
+    return pack_record(4, q, p1 + p2)
+
+
+def present_records(prng):
+    """Records of PRESENT's table: from Fit with several bases, and others."""
+    house = house_record(PRESENT_TABLE)
+    records = [house] + [fitted_record(prng, PRESENT_TABLE) for _ in range(4)]
+    records += [twin_record(house, 1, 0), twin_record(house, 0, 1), twin_record(house, 9, 14)]
+    records.append(twin_record(records[1], 5, 3))
+    return records
+
+
+def almost_present_records():
+    """For each input, a record whose form differs from PRESENT's table there only."""
+    for x in range(16):
+        yield house_record(put(PRESENT_TABLE, x, PRESENT_TABLE[x] ^ 1 << x % 4))
+
+
+def damaged_headers(record):
+    """Wrong marks, versions and widths; the rest as it was."""
+    for place in range(5):
+        for value in (record[place] ^ 1, record[place] ^ 32, record[place] + 2, 255):
+            yield put(record, place, value)
+    yield put(put(record, 3, 1), 4, 0)  # version 256: the bytes exchanged
+    yield b"PCD" + record[3:]
+    other_width = 10 - record[5]
+    for width in (0, 1, 2, 3, 5, 7, 8, 12, 16, 64, 128 + record[5], 255, other_width):
+        yield put(record, 5, width)
+
+
+def damaged_coefficients(prng, record, places):
+    limit = 2 ** record[5]
+    for k, place in enumerate(places):
+        yield put(record, place, (limit, 255, limit + 1, large(prng, limit))[k % 4])
+
+
+def coefficient_places(record):
+    return range(FIRST_COEFFICIENT, len(record))
+
+
+def doubly_damaged(prng, record):
+    """Several things wrong at once: the order of the tests decides."""
+    limit = 2 ** record[5]
+    last = len(record) - 1
+    for _ in range(4):
+        first = FIRST_COEFFICIENT + prng.below(last - FIRST_COEFFICIENT)
+        second = first + 1 + prng.below(last - first)
+        yield put(put(record, first, large(prng, limit)), second, large(prng, limit))
+    bad_coefficient = put(record, last - 1, 255)
+    yield bad_coefficient[:-1]  # length before coefficient
+    yield bad_coefficient + b"\x00"
+    yield put(bad_coefficient, 5, 5)  # width before coefficient
+    yield put(record, 5, 5)[:-1]  # width before length
+    yield put(put(bad_coefficient, 5, 5), 0, 0)[:-1]  # mark before all that
+    yield put(put(record, 5, 9), 4, 2)[:-1]
+    yield put(record, 1, 0)[:5]  # under 6 bytes before the mark
+
+
+def refused_records(prng, record):
+    """What Read refuses, for the other operations that test a record.
+
+    At width 4 every byte is damaged once; at width 6 a part of them.
+    """
+    for place in range(FIRST_COEFFICIENT):
+        yield put(record, place, record[place] ^ 1)
+    step = 1 if record[5] == 4 else 19
+    yield from damaged_coefficients(prng, record, coefficient_places(record)[::step])
+    yield from damaged_coefficients(prng, record, [len(record) - 1])
+    for length in (0, 5, 6, len(record) - 1):
+        yield record[:length]
+    yield record + b"\x00"
+    for width in (0, 5, 8, 255, 10 - record[5]):
+        yield put(record, 5, width)
+    yield from doubly_damaged(prng, record)
+
+
+# ------------------------------------------------------------------------ Read
+
+
+def read_cases():
+    prng = Prng(101)
+    house = house_record(PRESENT_TABLE)
+    yield (house,)
+    for width in WIDTHS:
+        yield (zero_record(width),)
+        yield (full_record(width),)
+        for _ in range(12):
+            yield (random_record(prng, width),)
+
+    for record in (house, random_record(prng, 6)):
+        for damaged in damaged_headers(record):
+            yield (damaged,)
+        for damaged in doubly_damaged(prng, record):
+            yield (damaged,)
+        for place in coefficient_places(record):
+            yield (put(record, place, 255 if place % 2 else 2 ** record[5]),)
+            if record[5] == 4:
+                yield (put(record, place, 2 ** record[5] if place % 2 else 255),)
+    # In a width 6 record 16 to 63 are fine, in a width 4 one they are not.
+    yield (put(zero_record(6), 77, 63),)
+    yield (put(zero_record(4), 20, 63),)
+
+    for length in range(RECORD_LENGTH[4]):
+        yield (house[:length],)
+    for length in (34, 64, 138, 139, 140):
+        yield (resize(prng, house, length, 16),)
+    wide = random_record(prng, 6)
+    for length in (0, 5, 6, 7, 32, 33, 34, 100, 138, 140, 141, 278):
+        yield (resize(prng, wide, length, 64),)
+    yield (b"DCP",)
+    yield (bytes(6),)
+    yield (bytes(33),)
+    yield (bytes(139),)
+    yield (b"\xff" * 33,)
+
+
+# ----------------------------------------------------------------------- Check
+
+
+def check_cases():
+    prng = Prng(102)
+    for record in present_records(prng):
+        yield record, PRESENT_TABLE
+    for width in WIDTHS:
+        yield zero_record(width), bytes(2**width)
+        yield full_record(width), table_of(full_record(width))
+        for _ in range(20):
+            record = random_record(prng, width)
+            yield record, table_of(record)
+
+    for record in almost_present_records():
+        yield record, PRESENT_TABLE
+    for width in WIDTHS:
+        record = random_record(prng, width)
+        table = table_of(record)
+        for x in range(2**width):
+            yield record, put(table, x, table[x] ^ 1 << x % width)
+        for _ in range(6):  # several differ: the first counts
+            yield record, table_of(random_record(prng, width))
+            x = prng.below(2**width - 1)
+            later = x + 1 + prng.below(2**width - 1 - x)
+            yield record, put(put(table, x, table[x] ^ 1), later, table[later] ^ 3)
+
+        for x in range(2**width):
+            yield record, put(table, x, 2**width if x % 2 else 255)
+        for _ in range(4):
+            x = prng.below(2**width)
+            bad = put(table, x, large(prng, 2**width))
+            x = prng.below(2**width)
+            yield record, put(bad, x, large(prng, 2**width))
+            yield record, put(put(table, 0, table[0] ^ 1), 2**width - 1, 255)  # 3 before 6
+        for length in (0, 1, 15, 16, 17, 32, 63, 64, 65, 256):
+            if length != 2**width:
+                yield record, resize(prng, table, length, 2**width)
+        yield record, b"\xff" * (2**width - 1)  # 2 before 3
+
+        for damaged in refused_records(prng, record):
+            yield damaged, table
+        yield record[:-1], table[:-1]
+        yield put(record, 5, 7), b"\xff" * 7
+
+
+# ------------------------------------------------------------- Fit, House fit
+
+
+def fit_inputs(prng, width, table, basis):
+    work = bytes([1 + prng.below(255)]) * WORK_LENGTH[width]
+    return width, bytes(table), bytes(basis), work, prng.pattern(RECORD_LENGTH[width])
+
+
+def basis_of(width, *terms):
+    """One q for each set of exponents given; the others are 0."""
+    basis = bytearray(basis_length(width))
+    size = len(EXPONENTS[width])
+    for k, exponents in enumerate(terms):
+        for exponent in exponents:
+            basis[k * size + EXPONENTS[width].index(exponent)] = 1
+    return bytes(basis)
+
+
+def thin_bases(prng, width):
+    """Bases of low rank: many columns are combinations of earlier ones."""
+    size = len(EXPONENTS[width])
+    yield bytes(basis_length(width))
+    for exponent in EXPONENTS[width]:
+        yield basis_of(width, [exponent])
+    yield basis_of(width, [1, 2])
+    yield basis_of(width, [0, 3])
+    yield bytes([2**width - 1]) + bytes(basis_length(width) - 1)
+    if width == 6:
+        q = prng.elements(64, size)
+        yield q + q + q
+        yield bytes(2 * size) + q
+        yield q + bytes(2 * size)
+        yield bytes(size) + q + prng.elements(64, size)
+        yield basis_of(6, [1], [2], [4])
+        yield basis_of(6, [3], [6], [11])
+        yield basis_of(6, [0], [0], [1, 11])
+
+
+def table_from(prng, width, basis):
+    """A table that some p meets: the form with random p."""
+    return table_of(pack_record(width, basis, prng.elements(2**width, p_length(width))))
+
+
+def quadratic_table(prng):
+    """Six bits in, four out, each bit a polynomial of degree 2 in the input bits."""
+    table = [0] * 64
+    for bit in range(4):
+        chosen = [(i, j) for i in range(6) for j in range(i + 1) if prng.below(2)]
+        for x in range(64):
+            for i, j in chosen:
+                table[x] ^= (x >> i & x >> j & 1) << bit
+    return bytes(table)
+
+
+def shuffled(prng, size):
+    table = list(range(size))
+    for k in range(size - 1, 0, -1):
+        other = prng.below(k + 1)
+        table[k], table[other] = table[other], table[k]
+    return bytes(table)
+
+
+def fit_solvable_and_none(prng):
+    for width in WIDTHS:
+        size = 2**width
+        random_basis = prng.elements(size, basis_length(width))
+        zero_basis = bytes(basis_length(width))
+        identity = bytes(range(size))
+        for basis in (random_basis, zero_basis, basis_of(width, [1, 2, 3])):
+            yield fit_inputs(prng, width, bytes(size), basis)
+            yield fit_inputs(prng, width, identity, basis)
+            yield fit_inputs(prng, width, bytes([size - 1]) * size, basis)
+            for x in (0, 1, size - 1):  # 1, 0, 0 .. and the like
+                yield fit_inputs(prng, width, put(bytes(size), x, 1), basis)
+        for basis in thin_bases(prng, width):
+            yield fit_inputs(prng, width, table_from(prng, width, basis), basis)
+            yield fit_inputs(prng, width, prng.elements(size, size), basis)
+        for _ in range(24):
+            basis = prng.elements(size, basis_length(width))
+            other = prng.elements(size, basis_length(width))
+            yield fit_inputs(prng, width, table_from(prng, width, basis), basis)
+            yield fit_inputs(prng, width, table_from(prng, width, other), basis)
+        for _ in range(8):
+            basis = prng.elements(size, basis_length(width))
+            yield fit_inputs(prng, width, prng.elements(size, size), basis)
+            yield fit_inputs(prng, width, shuffled(prng, size), basis)
+    for _ in range(12):
+        yield fit_inputs(prng, 4, PRESENT_TABLE, prng.elements(16, 9))
+        yield fit_inputs(prng, 4, prng.elements(16, 16), prng.elements(16, 9))
+        yield fit_inputs(prng, 6, quadratic_table(prng), prng.elements(64, 57))
+    yield fit_inputs(prng, 4, PRESENT_TABLE, HOUSE_BASIS)
+    yield fit_inputs(prng, 4, b"\x0f" * 16, b"\x0f" * 9)
+    # One entry changed in a table that fits: none fits any more.
+    basis = prng.elements(64, 57)
+    table = table_from(prng, 6, basis)
+    for x in (0, 31, 63):
+        yield fit_inputs(prng, 6, put(table, x, table[x] ^ 32), basis)
+
+
+def fit_cases():
+    prng = Prng(103)
+    yield from fit_solvable_and_none(prng)
+
+    for width in WIDTHS:
+        good = fit_inputs(
+            prng, width, bytes(2**width), prng.elements(2**width, basis_length(width))
+        )
+        for wrong in WRONG_WIDTHS:
+            yield (wrong, *good[1:])
+        yield (10 - width, *good[1:])
+        yield (5, b"\xff", b"", b"\x01", b"\xff")  # 1 before 2 and 3
+        for place in (1, 2, 4):
+            length = len(good[place])
+            for n in [*one_off(length), 0, 1, 2 * length]:
+                yield change_length(prng, good, place, n, 2**width)
+        for n in (0, 1, WORK_LENGTH[width] - 1, WORK_LENGTH[width] + 1, WORK_LENGTH[10 - width]):
+            yield (*good[:3], b"\x77" * n, good[4])
+        for n in (304, 4928):  # other sizes that a fit could do with
+            yield (*good[:3], b"\x01" * n, good[4])
+        for place in range(1, 5):  # 2 before 3
+            bad = (width, put(good[1], 0, 255), put(good[2], 0, 255), *good[3:])
+            yield (*bad[:place], bad[place][:-1], *bad[place + 1 :])
+
+        step = 1 if width == 4 else 7
+        entries = good[1] + good[2]
+        places = [*range(0, len(entries), step), 2**width - 1, 2**width, len(entries) - 1]
+        for k, place in enumerate(places):
+            bad = put(entries, place, (2**width, 255, large(prng, 2**width))[k % 3])
+            yield fit_inputs(prng, width, bad[: 2**width], bad[2**width :])
+        for _ in range(6):
+            bad = entries
+            for _ in range(2):
+                bad = put(bad, prng.below(len(bad)), large(prng, 2**width))
+            yield fit_inputs(prng, width, bad[: 2**width], bad[2**width :])
+    # 3 before 4
+    yield fit_inputs(prng, 4, put(put(bytes(16), 0, 1), 15, 16), bytes(9))
+
+
+def house_fit_inputs(prng, table):
+    return bytes(table), bytes([1 + prng.below(255)]) * 448, prng.pattern(33)
+
+
+def house_fit_cases():
+    prng = Prng(104)
+    inverse = bytes(SBOX.index(x) for x in range(16))
+    for table in (PRESENT_TABLE, inverse, bytes(range(16)), bytes(range(15, -1, -1))):
+        yield house_fit_inputs(prng, table)
+    for value in range(16):
+        yield house_fit_inputs(prng, bytes([value]) * 16)
+        yield house_fit_inputs(prng, put(bytes(16), value, 1))
+        yield house_fit_inputs(prng, put(bytes(16), 15 - value, value))
+        yield house_fit_inputs(prng, put(b"\x0f" * 16, value, 15 ^ 1 << value % 4))
+    for coefficients in range(9):  # the listed powers themselves
+        alone = put(bytes(9), coefficients, 1 + prng.below(15))
+        yield house_fit_inputs(prng, bytes(evaluate(4, alone, x) for x in range(16)))
+    for bits in (1, 2, 3):  # fewer output bits
+        for _ in range(8):
+            yield house_fit_inputs(prng, prng.elements(2**bits, 16))
+    for _ in range(60):
+        yield house_fit_inputs(prng, shuffled(prng, 16))
+        yield house_fit_inputs(prng, prng.elements(16, 16))
+
+    good = house_fit_inputs(prng, prng.elements(16, 16))
+    for place in range(16):
+        for value in (16, 255, large(prng, 16)):
+            yield house_fit_inputs(prng, put(good[0], place, value))
+    for _ in range(12):
+        bad = good[0]
+        for _ in range(2):
+            bad = put(bad, prng.below(16), large(prng, 16))
+        yield house_fit_inputs(prng, bad)
+    for n in (0, 1, 15, 17, 25, 64):
+        yield change_length(prng, good, 0, n, 16)
+        yield (put(resize(prng, good[0], n, 16), 0, 255), *good[1:])  # 2 before 3
+    for n in (0, 1, 304, 447, 449, 6144):
+        yield good[0], b"\x5a" * n, good[2]
+        yield put(good[0], 3, 255), b"\x5a" * n, good[2]
+    for n in (0, 1, 32, 34, 139):
+        yield change_length(prng, good, 2, n)
+        yield change_length(prng, (put(good[0], 0, 16), *good[1:]), 2, n)
+
+
+# ----------------------------------------------------------- S-box, its watch
+
+
+def sbox_inputs(prng, record, s):
+    """Record, s, shares, random: all that the S-box and its watch have in common."""
+    limit = 2 ** record[5]
+    return record, s, prng.elements(limit, s), prng.elements(limit, sbox_random(record[5], s))
+
+
+def sbox_special_inputs(prng, record, s):
+    """Zeros and largest elements in shares and random."""
+    width = record[5]
+    top, count = 2**width - 1, sbox_random(width, s)
+    yield record, s, bytes(s), bytes(count)
+    yield record, s, bytes([top]) * s, bytes([top]) * count
+    yield record, s, prng.elements(top + 1, s), bytes(count)
+    yield record, s, bytes(s), prng.elements(top + 1, count)
+
+
+def sbox_wrong_elements(prng, width):
+    """Elements too large at each place of shares and random."""
+    limit = 2**width
+    record = random_record(prng, width)
+    for s in (1, 2, 3, 9):
+        good = sbox_inputs(prng, record, s)
+        entries = good[2] + good[3]
+        places = range(len(entries)) if s < 4 else (0, 8, 9, 10, 50, len(entries) - 1)
+        for k, place in enumerate(places):
+            bad = put(entries, place, (limit, 255, large(prng, limit))[k % 3])
+            yield record, s, bad[:s], bad[s:]
+        for _ in range(3):
+            bad = entries
+            for _ in range(2):
+                bad = put(bad, prng.below(len(bad)), large(prng, limit))
+            yield record, s, bad[:s], bad[s:]
+
+
+def sbox_wrong_counts(prng, record):
+    """Share counts refused, with the lengths that go with a small number of shares:
+    the count itself, its low byte, or 1."""
+    for s in WRONG_SHARE_COUNTS:
+        fitting = s if s < 12 else s % 256 if s % 256 < 10 else 1
+        yield (record, s, *sbox_inputs(prng, record, fitting)[2:])
+
+
+def sbox_cases():
+    prng = Prng(105)
+    house = house_record(PRESENT_TABLE)
+    for s in SHARE_COUNTS:
+        for width in WIDTHS:
+            for _ in range(5):
+                yield (*sbox_inputs(prng, random_record(prng, width), s), prng.pattern(s))
+            for inputs in sbox_special_inputs(prng, random_record(prng, width), s):
+                yield (*inputs, prng.pattern(s))
+            yield (*sbox_inputs(prng, full_record(width), s), prng.pattern(s))
+        yield (*sbox_inputs(prng, zero_record(4), s), prng.pattern(s))
+        for record in present_records(prng)[-3:]:
+            yield (*sbox_inputs(prng, record, s), prng.pattern(s))
+    for x in range(16):
+        masks = prng.elements(16, 2)
+        shares = bytes([x ^ masks[0] ^ masks[1]]) + masks
+        yield house, 3, shares, prng.elements(16, 6), prng.pattern(3)
+
+    for width in WIDTHS:
+        limit = 2**width
+        record = random_record(prng, width)
+        good = (*sbox_inputs(prng, record, 3), prng.pattern(3))
+        for damaged in refused_records(prng, record):
+            yield (damaged, *good[1:])
+        yield record[:-1], 0, b"\xff", b"\xff", b"\x01"  # Read's before 7, 2, 3
+        for inputs in sbox_wrong_counts(prng, record):
+            yield (*inputs, prng.pattern(len(inputs[2])))
+        yield record, 0, b"\xff", b"\xff", b"\x01"  # 7 before 2 and 3
+        for s in SHARE_COUNTS:
+            good = (*sbox_inputs(prng, record, s), prng.pattern(s))
+            for place in (2, 3, 4):
+                for n in one_off(len(good[place])):
+                    yield change_length(prng, good, place, n, limit)
+            # lengths of the other width
+            yield change_length(prng, good, 3, sbox_random(10 - width, s) + (s == 1), limit)
+        for n in (0, 2, 6, 8, 64, 192):
+            yield (*sbox_inputs(prng, record, 3), prng.pattern(n))
+        bad = (record, 3, b"\xff" * 3, b"\xff" * sbox_random(width, 3), prng.pattern(3))
+        for place in (2, 3, 4):  # 2 before 3
+            yield (*bad[:place], bad[place][:-1], *bad[place + 1 :])
+        for inputs in sbox_wrong_elements(prng, width):
+            yield (*inputs, prng.pattern(inputs[1]))
+
+
+def windows(first, end):
+    """The numbers from first to end - 1 in lists of up to 64."""
+    for start in range(first, end, 64):
+        yield list(range(start, min(start + 64, end)))
+
+
+def odd_lists(prng, total):
+    """Lists accepted: short, long, out of order, with repeats, at the edges."""
+    last = total - 1
+    yield []
+    yield [0]
+    yield [last]
+    yield [last, 0, last]
+    yield [last - k for k in range(57)]
+    yield [last] * 64
+    yield [prng.below(total) for _ in range(63)]
+    yield [prng.below(total) for _ in range(64)]
+    few = [prng.below(total) for _ in range(5)]
+    yield [prng.pick(few) for _ in range(40)]
+
+
+def late_lists(prng, total):
+    """Lists with a number that is no step's: at the front, in the middle, last."""
+    for number in (total, total + 1, 2**31, 2**32 - 1):
+        for length, place in ((1, 0), (64, 63), (20, prng.below(20)), (64, prng.below(64))):
+            steps = [prng.below(total) for _ in range(length)]
+            steps[place] = number
+            yield steps
+    steps = [prng.below(total) for _ in range(30)]
+    steps[7], steps[19] = total + 5, total
+    yield steps
+    yield [total] * 64
+
+
+def watch_wrong_lengths():
+    """Numbers of steps and of values that do not go together, or are too many."""
+    yield from ((0, 1), (1, 0), (1, 2), (2, 1), (63, 64), (64, 63), (64, 65))
+    yield from ((65, 65), (65, 64), (64, 0), (66, 66), (128, 128), (300, 300))
+
+
+def sbox_watch_cases():
+    prng = Prng(106)
+    # Every step of the S-box, at all share counts at width 4.
+    whole = [(4, s) for s in SHARE_COUNTS] + [(6, 1), (6, 2), (6, 3)]
+    for width, s in whole:
+        inputs = sbox_inputs(prng, random_record(prng, width), s)
+        for steps in windows(0, sbox_steps(width, s)):
+            yield (*inputs, steps, prng.pattern(len(steps)))
+    for width in WIDTHS:
+        for s in SHARE_COUNTS:
+            total = sbox_steps(width, s)
+            inputs = sbox_inputs(prng, random_record(prng, width), s)
+            for steps in odd_lists(prng, total):
+                yield (*inputs, steps, prng.pattern(len(steps)))
+            for inputs in sbox_special_inputs(prng, random_record(prng, width), s):
+                steps = [prng.below(total) for _ in range(16)]
+                yield (*inputs, steps, prng.pattern(16))
+            yield (*inputs, [total], prng.pattern(1))
+
+    for width in WIDTHS:
+        limit = 2**width
+        record = random_record(prng, width)
+        total = sbox_steps(width, 3)
+        good = (*sbox_inputs(prng, record, 3), [9, total - 1, 0], prng.pattern(3))
+        for damaged in refused_records(prng, record):
+            yield (damaged, *good[1:])
+        yield record[:-1], 0, b"\xff", b"\xff", [2**32 - 1], b""
+        for inputs in sbox_wrong_counts(prng, record):
+            yield (*inputs, [0, 1], prng.pattern(2))
+        yield record, 10, b"\xff", b"\xff", [2**32 - 1], b""
+        for s in SHARE_COUNTS:
+            base = (*sbox_inputs(prng, record, s), [5, 4], prng.pattern(2))
+            for place in (2, 3):
+                for n in one_off(len(base[place])):
+                    yield change_length(prng, base, place, n, limit)
+        for listed, lent in watch_wrong_lengths():
+            steps = [prng.below(total) for _ in range(listed)]
+            yield (*good[:4], steps, prng.pattern(lent))
+        yield (*good[:4], [total] * 65, prng.pattern(65))  # 2 before 8
+        yield (record, 3, b"\xff" * 3, good[3], [1], b"")  # 2 before 3
+        yield (record, 3, b"\xff" * 3, good[3], [total], b"\x01")  # 3 before 8
+        for inputs in sbox_wrong_elements(prng, width):
+            yield (*inputs, [0, 0, 8], prng.pattern(3))
+        for steps in late_lists(prng, total):
+            yield (*good[:4], steps, prng.pattern(len(steps)))
+
+
+# ----------------------------------------------------------- Block, its watch
+
+# How many valid blocks of each share count: random bytes grow with s(s - 1).
+BLOCKS = {1: 16, 2: 14, 3: 7, 4: 4, 5: 2, 6: 2, 7: 1, 8: 1, 9: 2}
+WATCHED_BLOCKS = {1: 12, 2: 12, 3: 6, 4: 4, 5: 2, 6: 1, 7: 1, 8: 1, 9: 1}
+
+
+def block_inputs(prng, record, s, key=None, block=None):
+    """Record, s, key shares, block shares, random."""
+    key_shares = prng.bytes(10 * s) if key is None else sharing(prng, key, s)
+    block_shares = prng.bytes(8 * s) if block is None else sharing(prng, block, s)
+    return record, s, key_shares, block_shares, prng.elements(16, block_random(s))
+
+
+def block_refused_early(prng, records):
+    """Refused before the lengths are tested, so the slices can be short."""
+    house = records[0]
+    for damaged in refused_records(prng, house):
+        yield damaged, 1, bytes(10), bytes(8), b""
+    wide = random_record(prng, 6)
+    for damaged in refused_records(prng, wide):
+        yield damaged, 2, b"", b"", b""
+    for record in (wide, zero_record(6), full_record(6)):  # Read's, then 1
+        yield record, 1, bytes(10), bytes(8), b""
+        yield record, 0, b"", b"", b"\xff"
+    for record in almost_present_records():
+        yield record, 1, prng.bytes(10), prng.bytes(8), b""
+    for place in coefficient_places(house):  # another coefficient, still an element
+        yield put(house, place, house[place] ^ 1 + prng.below(15)), 1, bytes(10), bytes(8), b""
+    for record in (zero_record(4), full_record(4), random_record(prng, 4)):
+        yield record, 1, bytes(10), bytes(8), b""
+        yield record, 10, b"", b"", b"\xff"  # 6 before 7, 2, 3
+    for s in WRONG_SHARE_COUNTS:
+        low = s % 256
+        if low in (1, 2):
+            yield (house, s, *block_inputs(prng, house, low)[2:])
+        yield records[s % 9], s, b"", b"", b""
+    yield house, 0, bytes(10), bytes(8), b"\xff"  # 7 before 2 and 3
+
+
+def block_wrong_lengths(prng, records):
+    for s in SHARE_COUNTS:
+        record = records[s % 9]
+        short = (record, s, prng.bytes(10 * s), prng.bytes(8 * s), b"")
+        for place, length in ((2, 10 * s), (3, 8 * s)):
+            for n in [*one_off(length), 0, length + 10]:
+                yield change_length(prng, short, place, n)
+        if s > 1:
+            yield short
+            yield (*short[:4], b"\xff")
+        else:
+            yield (*short[:4], b"\x00")
+            yield (*short[:4], b"\xff")  # 2 before 3
+        yield record, s, short[3], short[2], b""
+    for s in (1, 2):
+        good = block_inputs(prng, records[1], s)
+        for place in (2, 3, 4):
+            for n in one_off(len(good[place])):
+                yield change_length(prng, good, place, n, 16)
+    three = block_inputs(prng, records[0], 3)
+    yield change_length(prng, three, 4, 3161)
+    yield change_length(prng, three, 4, 3163, 16)
+    two = block_inputs(prng, records[2], 2)
+    yield (*two[:4], put(two[4], 5, 255)[:-1])  # 2 before 3
+
+
+def block_wrong_elements(prng, records):
+    for s, places in ((2, (0, 1, 2, 526, 527, 1052, 1053)), (3, (0, 3161))):
+        good = block_inputs(prng, records[s], s)
+        for k, place in enumerate(places):
+            yield (*good[:4], put(good[4], place, (16, 255, large(prng, 16))[k % 3]))
+    good = block_inputs(prng, records[0], 2)
+    for first, second in ((7, 700), (1, 2), (1000, 1053)):
+        yield (*good[:4], put(put(good[4], first, 16), second, 255))
+
+
+def block_cases():
+    prng = Prng(107)
+    records = present_records(prng)
+    for number, (key, block, _) in enumerate(vectors()):
+        for s in (1, 2 + number):
+            yield (*block_inputs(prng, records[0], s, key, block), prng.pattern(8 * s))
+    for s, count in BLOCKS.items():
+        for k in range(count):
+            inputs = block_inputs(prng, records[(s + 2 * k) % 9], s)
+            yield (*inputs, prng.pattern(8 * s))
+    house = records[0]
+    for s in (2, 3):  # zeros and largest elements
+        n = block_random(s)
+        yield house, s, bytes(10 * s), bytes(8 * s), bytes(n), prng.pattern(8 * s)
+        yield house, s, b"\xff" * 10 * s, b"\xff" * 8 * s, b"\x0f" * n, prng.pattern(8 * s)
+
+    for inputs in block_refused_early(prng, records):
+        yield (*inputs, prng.pattern(8))
+    for inputs in block_wrong_lengths(prng, records):
+        yield (*inputs, prng.pattern(8 * inputs[1]))
+    for s in (1, 2):
+        good = block_inputs(prng, house, s)
+        for n in (0, 8 * s - 1, 8 * s + 1, 10 * s, 72):
+            yield (*good, prng.pattern(n))
+    good = block_inputs(prng, house, 2)
+    yield (*good[:4], put(good[4], 0, 255), prng.pattern(15))  # 2 before 3
+    for inputs in block_wrong_elements(prng, records):
+        yield (*inputs, prng.pattern(8 * inputs[1]))
+
+
+def block_parts(s):
+    """The number of the first step of each part of a block, in order."""
+    box = sbox_steps(4, s)
+    step = 0
+    for _ in range(31):
+        for length in (16 * s, *[box] * 16, 16 * s, 20 * s, box, 2):
+            yield step
+            step += length
+    yield step
+
+
+def first_part(number):
+    """The place of a round's first part in block_parts."""
+    return 21 * (number - 1)
+
+
+def landmarks(prng, s):
+    """First steps of the parts of three rounds, and the step before each."""
+    parts = list(block_parts(s))
+    steps = []
+    for number in (1, 2 + prng.below(29), 31):
+        start = first_part(number)
+        for part in (0, 1, 2, 16, 17, 18, 19, 20, 21):
+            steps += [max(parts[start + part] - 1, 0), parts[start + part]]
+    return steps + [block_steps(s) - 1]
+
+
+def watch_lists(prng, s):
+    """Lists for watched blocks, over and over."""
+    total = block_steps(s)
+    while True:
+        yield landmarks(prng, s)
+        yield [prng.below(total) for _ in range(64)]
+        start = prng.below(total - 64)
+        yield list(range(start, start + 64))
+        yield [total - 1 - k for k in range(64)]
+
+
+def block_watch_cases():
+    prng = Prng(108)
+    records = present_records(prng)
+    house = records[0]
+    # Every step of round 1, of round 31 and of the last key addition, one share.
+    parts = list(block_parts(1))
+    inputs = block_inputs(prng, records[5], 1)
+    for steps in windows(0, parts[first_part(2)]):
+        yield (*inputs, steps, prng.pattern(len(steps)))
+    for steps in windows(parts[first_part(31)], block_steps(1)):
+        yield (*inputs, steps, prng.pattern(len(steps)))
+    for s, count in WATCHED_BLOCKS.items():
+        lists = watch_lists(prng, s)
+        for k in range(count):
+            steps = next(lists)
+            inputs = block_inputs(prng, records[(s + 2 * k) % 9], s)
+            yield (*inputs, steps, prng.pattern(len(steps)))
+    for s in (1, 2):
+        inputs = block_inputs(prng, house, s)
+        for steps in odd_lists(prng, block_steps(s)):
+            yield (*inputs, steps, prng.pattern(len(steps)))
+    three = block_inputs(prng, house, 3)
+    yield (*three, [117196], prng.pattern(1))
+    yield (*three, [117197], prng.pattern(1))
+
+    for inputs in block_refused_early(prng, records):
+        yield (*inputs, [3, 2, 2], prng.pattern(3))
+    for inputs in block_wrong_lengths(prng, records):
+        yield (*inputs, [0, 31728], prng.pattern(2))
+    one = block_inputs(prng, house, 1)
+    for listed, lent in watch_wrong_lengths():
+        steps = [prng.below(block_steps(1)) for _ in range(listed)]
+        yield (*one, steps, prng.pattern(lent))
+    yield (*one, [31729] * 65, prng.pattern(65))  # 2 before 8
+    for inputs in block_wrong_elements(prng, records):
+        yield (*inputs, [1, 0], prng.pattern(2))
+    two = block_inputs(prng, house, 2)
+    bad = (*two[:4], put(two[4], 8, 16))
+    yield (*bad, [0, 2**32 - 1], prng.pattern(2))  # 3 before 8
+    yield (*bad, [0], prng.pattern(2))  # 2 before 3
+    for steps in late_lists(prng, block_steps(1)):
+        yield (*one, steps, prng.pattern(len(steps)))
+    for s in (2, 4):
+        inputs = block_inputs(prng, house, s)
+        total = block_steps(s)
+        yield (*inputs, [total - 1, total, total - 1], prng.pattern(3))
+
+
+# ----------------------------------------------------------------- Split, Join
+
+
+def split_cases():
+    prng = Prng(109)
+    yield b"\x07", 3, b"\x01\x02", prng.pattern(3)
+    for s in SHARE_COUNTS:
+        for size in range(1, 17):
+            masks = prng.bytes(size * (s - 1))
+            yield prng.bytes(size), s, masks, prng.pattern(size * s)
+        for size in (1, 16):
+            masks = bytes(size * (s - 1))
+            yield b"\xff" * size, s, masks, prng.pattern(size * s)
+            yield bytes(size), s, b"\xff" * len(masks), prng.pattern(size * s)
+
+    for s in WRONG_SHARE_COUNTS:
+        yield prng.bytes(2), s, prng.bytes(4), prng.pattern(6)
+        yield b"", s, b"", b""
+    yield bytes(17), 10, bytes(1), prng.pattern(3)  # 7 before 2
+    for s in SHARE_COUNTS:
+        for size in (0, 17, 18, 32):  # the other lengths go with it
+            yield prng.bytes(size), s, prng.bytes(size * (s - 1)), prng.pattern(size * s)
+        for size in (1, 8, 10, 16):
+            good = (prng.bytes(size), s, prng.bytes(size * (s - 1)), prng.pattern(size * s))
+            for place in (2, 3):
+                for n in one_off(len(good[place])):
+                    yield change_length(prng, good, place, n)
+    yield b"", 1, b"", prng.pattern(1)
+    yield prng.bytes(8), 3, prng.bytes(8), prng.pattern(16)  # as if for two shares
+    yield prng.bytes(8), 3, prng.bytes(24), prng.pattern(24)  # a mask too many
+
+
+def join_cases():
+    prng = Prng(110)
+    yield b"\x04\x01\x02", 3, prng.pattern(1)
+    for s in SHARE_COUNTS:
+        for size in range(1, 17):
+            yield prng.bytes(size * s), s, prng.pattern(size)
+        for size in (1, 16):
+            yield b"\xff" * size * s, s, prng.pattern(size)
+            yield bytes(size * s), s, prng.pattern(size)
+
+    for s in WRONG_SHARE_COUNTS:
+        yield prng.bytes(6), s, prng.pattern(2)
+        yield b"", s, b""
+    yield bytes(5), 10, prng.pattern(17)  # 7 before 2
+    for s in SHARE_COUNTS:
+        for size in (0, 17, 18, 32):
+            yield prng.bytes(size * s), s, prng.pattern(size)
+        for size in (1, 8, 10, 16):
+            for n in (size * s - 1, size * s + 1, size * (s + 1), size * (s - 1)):
+                yield prng.bytes(n), s, prng.pattern(size)
+    yield b"", 1, prng.pattern(1)
+    yield prng.bytes(1), 1, b""
+
+
+INPUTS = {
+    "read": read_cases,
+    "check": check_cases,
+    "fit": fit_cases,
+    "house_fit": house_fit_cases,
+    "sbox": sbox_cases,
+    "sbox_watch": sbox_watch_cases,
+    "block": block_cases,
+    "block_watch": block_watch_cases,
+    "split": split_cases,
+    "join": join_cases,
+}

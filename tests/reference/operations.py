@@ -1,0 +1,191 @@
+"""The ten operations. Each returns an Answer; the tests come first.
+
+Slices are bytes, a watch list is a list of numbers. An output is given with
+its content before the call; the answer holds its content after the call.
+"""
+
+from answers import (
+    NO_SUCH_STEP,
+    OTHER_TABLE,
+    WRONG_LENGTH,
+    WRONG_WIDTH,
+    done,
+    lengths_differ,
+    refused,
+    share_count_wrong,
+    too_large,
+)
+from decomposition import check, first_difference, fit, house_fit, read, record_wrong
+from present import SBOX
+from steps import (
+    Trace,
+    block_random,
+    block_steps,
+    masked_block,
+    masked_sbox,
+    sbox_random,
+    sbox_steps,
+)
+
+LONGEST_LIST = 64
+LONGEST_VALUE = 16
+
+
+# ---------------------------------------------------------------------- S-box
+
+
+def sbox_wrong(record, s, shares, random, more_lengths):
+    """more_lengths(): what the call tests under 2 besides shares and random."""
+    return (
+        record_wrong(record)
+        or share_count_wrong(s)
+        or lengths_differ((shares, s), (random, sbox_random(record[5], s)))
+        or more_lengths()
+        or too_large(2 ** record[5], shares, random)
+    )
+
+
+def sbox(record, s, shares, random, out):
+    refusal = sbox_wrong(record, s, shares, random, lambda: lengths_differ((out, s)))
+    if refusal:
+        return refused(refusal, [out])
+    trace = Trace(random)
+    result = masked_sbox(trace, record, list(shares))
+    return done(trace.counts(), [result])
+
+
+def sbox_watch(record, s, shares, random, steps, values):
+    refusal = sbox_wrong(
+        record, s, shares, random, lambda: list_wrong(steps, values)
+    ) or no_such_step(steps, sbox_steps(record[5], s))
+    if refusal:
+        return refused(refusal, [values])
+    trace = Trace(random)
+    masked_sbox(trace, record, list(shares))
+    return done(trace.counts(), [watched(trace, steps)])
+
+
+# ---------------------------------------------------------------------- Block
+
+
+def block_record_wrong(record):
+    refusal = record_wrong(record)
+    if refusal:
+        return refusal
+    if record[5] != 4:
+        return (WRONG_WIDTH, 0)
+    if first_difference(record, SBOX) is not None:
+        return (OTHER_TABLE, 0)  # no place is named here, unlike in Check
+    return None
+
+
+def block_wrong(record, s, key_shares, block_shares, random, more_lengths):
+    return (
+        block_record_wrong(record)
+        or share_count_wrong(s)
+        or lengths_differ(
+            (key_shares, 10 * s), (block_shares, 8 * s), (random, block_random(s))
+        )
+        or more_lengths()
+        or too_large(16, random)
+    )
+
+
+def block(record, s, key_shares, block_shares, random, out):
+    refusal = block_wrong(
+        record, s, key_shares, block_shares, random, lambda: lengths_differ((out, 8 * s))
+    )
+    if refusal:
+        return refused(refusal, [out])
+    trace = Trace(random)
+    result = masked_block(trace, record, s, key_shares, block_shares)
+    return done(trace.counts(), [result])
+
+
+def block_watch(record, s, key_shares, block_shares, random, steps, values):
+    refusal = block_wrong(
+        record, s, key_shares, block_shares, random, lambda: list_wrong(steps, values)
+    ) or no_such_step(steps, block_steps(s))
+    if refusal:
+        return refused(refusal, [values])
+    trace = Trace(random)
+    masked_block(trace, record, s, key_shares, block_shares)
+    return done(trace.counts(), [watched(trace, steps)])
+
+
+# ---------------------------------------------------------------------- watch
+
+
+def list_wrong(steps, values):
+    if len(steps) != len(values) or len(steps) > LONGEST_LIST:
+        return (WRONG_LENGTH, 0)
+    return None
+
+
+def no_such_step(steps, total):
+    for place, step in enumerate(steps):
+        if step >= total:
+            return (NO_SUCH_STEP, place)
+    return None
+
+
+def watched(trace, steps):
+    return [trace.values[step] for step in steps]
+
+
+# ---------------------------------------------------------------- Split, Join
+
+
+def value_length_wrong(value):
+    if not 1 <= len(value) <= LONGEST_VALUE:
+        return (WRONG_LENGTH, 0)
+    return None
+
+
+def add_bytes(a, b):
+    return bytes(x ^ y for x, y in zip(a, b, strict=True))
+
+
+def split(value, s, masks, out):
+    size = len(value)
+    refusal = (
+        share_count_wrong(s)
+        or value_length_wrong(value)
+        or lengths_differ((masks, size * (s - 1)), (out, size * s))
+    )
+    if refusal:
+        return refused(refusal, [out])
+    share_0 = value
+    for k in range(s - 1):
+        share_0 = add_bytes(share_0, masks[k * size : (k + 1) * size])
+    return done([], [share_0 + masks])
+
+
+def join(shares, s, out):
+    """The value of Join is what it writes, so the length of out counts."""
+    size = len(out)
+    refusal = (
+        share_count_wrong(s)
+        or value_length_wrong(out)
+        or lengths_differ((shares, size * s))
+    )
+    if refusal:
+        return refused(refusal, [out])
+    value = bytes(size)
+    for k in range(s):
+        value = add_bytes(value, shares[k * size : (k + 1) * size])
+    return done([], [value])
+
+
+OPERATIONS = {
+    "read": read,
+    "check": check,
+    "fit": fit,
+    "house_fit": house_fit,
+    "sbox": sbox,
+    "sbox_watch": sbox_watch,
+    "block": block,
+    "block_watch": block_watch,
+    "split": split,
+    "join": join,
+}

@@ -1,0 +1,198 @@
+"""The masked product, the masked S-box and masked PRESENT-80, step by step.
+
+A sharing is a list of s shares. Every step is recorded: the element it gives
+and the shares it touches.
+"""
+
+from decomposition import unpack_record
+from field import EXPONENTS, PRODUCT
+from present import ROUNDS, permute, rotate
+
+
+class Trace:
+    """Records the steps of one run and deals out its random elements."""
+
+    def __init__(self, random):
+        self.random = random
+        self.values = []  # of each step, the element
+        self.touched = []  # of each step, the shares, as a tuple
+        self.drawn = 0
+        self.products = 0
+
+    def step(self, value, shares):
+        self.values.append(value)
+        self.touched.append(shares)
+        return value
+
+    def draw(self):
+        self.drawn += 1
+        return self.random[self.drawn - 1]
+
+    def counts(self):
+        return self.products, self.drawn, len(self.values)
+
+
+# ----------------------------------------------------------- what a run takes
+
+
+def sbox_random(width, s):
+    """Random elements of one S-box."""
+    return s * (s - 1) if width == 4 else 5 * s * (s - 1) // 2
+
+
+def sbox_steps(width, s):
+    if width == 4:
+        return 57 * s + 7 * s * (s - 1)
+    return 275 * s + 35 * s * (s - 1) // 2
+
+
+def block_random(s):
+    return 527 * s * (s - 1)
+
+
+def block_steps(s):
+    return 31 * (52 * s + 17 * (7 * s * s + 50 * s) + 2) + 16 * s
+
+
+# ------------------------------------------------------------- masked product
+
+
+def masked_product(trace, width, a, b):
+    times = PRODUCT[width]
+    s = len(a)
+    c = [trace.step(times[a[i]][b[i]], (i,)) for i in range(s)]
+    for i in range(s):
+        for j in range(i + 1, s):
+            both = (i, j)
+            r = trace.step(trace.draw(), both)
+            a_i_b_j = trace.step(times[a[i]][b[j]], both)
+            blinded = trace.step(r ^ a_i_b_j, both)
+            a_j_b_i = trace.step(times[a[j]][b[i]], both)
+            r_prime = trace.step(blinded ^ a_j_b_i, both)
+            c[i] = trace.step(c[i] ^ r, (i,))
+            c[j] = trace.step(c[j] ^ r_prime, (j,))
+    trace.products += 1
+    return c
+
+
+# --------------------------------------------------------------------- S-box
+
+
+def square_all(trace, width, x):
+    times = PRODUCT[width]
+    return [trace.step(times[v][v], (share,)) for share, v in enumerate(x)]
+
+
+def powers(trace, width, x):
+    """A sharing of x^e for each listed exponent e but 0."""
+    power = {1: x}
+
+    def squares(first):
+        for _ in range(width - 1):
+            double = first * 2 % (2**width - 1)
+            power[double] = square_all(trace, width, power[first])
+            first = double
+
+    squares(1)
+    power[3] = masked_product(trace, width, power[1], power[2])
+    squares(3)
+    if width == 6:
+        power[11] = masked_product(trace, width, power[3], power[8])
+        squares(11)
+    return power
+
+
+def polynomial(trace, width, coefficients, power, s):
+    result = []
+    for share in range(s):
+        only = (share,)
+        # The constant is added once in all, so to share 0 alone.
+        total = coefficients[0] if share == 0 else 0
+        for coefficient, exponent in zip(coefficients[1:], EXPONENTS[width][1:]):
+            term = trace.step(PRODUCT[width][coefficient][power[exponent][share]], only)
+            total = trace.step(total ^ term, only)
+        result.append(total)
+    return result
+
+
+def masked_sbox(trace, record, x):
+    width, qs, ps = unpack_record(record)
+    s = len(x)
+    power = powers(trace, width, x)
+    q = [polynomial(trace, width, c, power, s) for c in qs]
+    p = [polynomial(trace, width, c, power, s) for c in ps]
+    products = [masked_product(trace, width, p[k], q[k]) for k in range(len(q))]
+    result = []
+    for share in range(s):
+        total = products[0][share]
+        for other in products[1:] + [p[-1]]:
+            total = trace.step(total ^ other[share], (share,))
+        result.append(total)
+    return result
+
+
+# ---------------------------------------------------------------- PRESENT-80
+
+
+def to_nibbles(number, count):
+    return [number >> 4 * k & 15 for k in range(count)]
+
+
+def from_nibbles(nibbles):
+    return sum(nibble << 4 * k for k, nibble in enumerate(nibbles))
+
+
+def cut_shares(data, s):
+    """The shares of a sharing of a byte string, as numbers, high byte first."""
+    size = len(data) // s
+    return [int.from_bytes(data[k * size : (k + 1) * size], "big") for k in range(s)]
+
+
+def record_all(trace, sharing):
+    """One step for each nibble, share by share, nibble 0 first."""
+    for share, nibbles in enumerate(sharing):
+        for nibble in nibbles:
+            trace.step(nibble, (share,))
+    return sharing
+
+
+def add_key(trace, state, key):
+    """The top 64 bits of the key are its nibbles 4 to 19."""
+    return record_all(
+        trace, [[a ^ b for a, b in zip(state[i], key[i][4:])] for i in range(len(state))]
+    )
+
+
+def substitute(trace, record, sharing, nibble):
+    """The S-box on one nibble of a sharing, in place."""
+    outputs = masked_sbox(trace, record, [share[nibble] for share in sharing])
+    for share, value in zip(sharing, outputs):
+        share[nibble] = value
+
+
+def permute_all(trace, state):
+    return record_all(trace, [to_nibbles(permute(from_nibbles(n)), 16) for n in state])
+
+
+def update_key(trace, record, key, number):
+    key = record_all(trace, [to_nibbles(rotate(from_nibbles(n)), 20) for n in key])
+    substitute(trace, record, key, 19)
+    # Bits 19 to 15 of share 0 alone: bit 15 tops nibble 3, the rest is nibble 4.
+    key[0] = to_nibbles(from_nibbles(key[0]) ^ number << 15, 20)
+    trace.step(key[0][3], (0,))
+    trace.step(key[0][4], (0,))
+    return key
+
+
+def masked_block(trace, record, s, key_shares, block_shares):
+    """Key and block shares as bytes, 10 and 8 a share; returns 8s bytes."""
+    key = [to_nibbles(share, 20) for share in cut_shares(key_shares, s)]
+    state = [to_nibbles(share, 16) for share in cut_shares(block_shares, s)]
+    for number in range(1, ROUNDS + 1):
+        state = add_key(trace, state, key)
+        for nibble in range(16):
+            substitute(trace, record, state, nibble)
+        state = permute_all(trace, state)
+        key = update_key(trace, record, key, number)
+    state = add_key(trace, state, key)
+    return b"".join(from_nibbles(share).to_bytes(8, "big") for share in state)

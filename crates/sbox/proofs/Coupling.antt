@@ -1,0 +1,116 @@
+-- Masked S-boxes of sharings that agree but for share u are coupled but for share u.
+use mathlib.Core.Path.{refl, ap₂}
+use mathlib.Core.Bool.{Bool, true, false}
+use mathlib.Core.List.{List, [], _∷_}
+use Prim.Native.Nat.{ℕ, zero, suc, _+_, _-_, _^_, _<_}
+use native.Mathlib.Omega.{arith}
+use lib.Dec.{eqb}
+use lib.ListN.{length, getD}
+use Rattle.xor.specs.Xor.{_⊕_}
+use Rattle.xor.specs.Sum.{Small}
+use Rattle.xor.proofs.Xor.{⊕-lt}
+use Rattle.field.specs.Mul.{mul, Ring}
+use Rattle.field.specs.Polynomial.{exponents}
+use Rattle.field.proofs.Ring.{mul-small}
+use Rattle.steps.specs.Coupling.{Coupled, coupled-done}
+use Rattle.steps.specs.Sharing.{share, CloseAt, Close, CloseAll, close-nil, close-cons}
+use Rattle.steps.proofs.Coupling.{coupled-bind, coupled-for}
+use Rattle.steps.proofs.Sharing.{close-at, close-nth, close-append, coupled-note}
+use Rattle.product.proofs.Coupling.{coupled-product}
+use Rattle.sbox.specs.Sbox.{nth, square, squares, thirdClass, powers, constant, term, polynomial, polynomials, products, total, sbox}
+use Rattle.sbox.specs.Form.{SmallAll, Coefficients}
+use Rattle.sbox.proofs.ByShare.{constant-small, coupled-by-share}
+
+-- ---- elements of one share
+
+-- the same element on both sides
+close-same : {n u i v : ℕ} → v < 2 ^ n → CloseAt n u i v v
+close-same h = record { agree = λ f. refl; small = h; small′ = h }
+
+close-add : {n u i v v′ w w′ : ℕ} → CloseAt n u i v v′ → CloseAt n u i w w′ → CloseAt n u i (v ⊕ w) (v′ ⊕ w′)
+close-add {n} p q = record {
+  agree = λ f. ap₂ _⊕_ (p .agree f) (q .agree f);
+  small = ⊕-lt n (p .small) (q .small);
+  small′ = ⊕-lt n (p .small′) (q .small′);
+}
+
+close-mul : {n u i v v′ w w′ : ℕ} → Ring n → CloseAt n u i v v′ → CloseAt n u i w w′ → CloseAt n u i (mul n v w) (mul n v′ w′)
+close-mul {n} {v = v} {v′ = v′} {w = w} {w′ = w′} ring p q = record {
+  agree = λ f. ap₂ (mul n) (p .agree f) (q .agree f);
+  small = mul-small ring v w (p .small);
+  small′ = mul-small ring v′ w′ (p .small′);
+}
+
+-- ---- the S-box
+
+module _ {n : ℕ} (ring : Ring n) (s u : ℕ) where
+  coupled-square : {a a′ : List ℕ} → Close n u a a′ → Coupled u (Close n u) (square n s a) (square n s a′)
+  unfolding square
+  coupled-square h = coupled-by-share s (λ i. coupled-note i (close-mul ring (close-at h i) (close-at h i)))
+
+  coupled-squares : (k : ℕ) {a a′ : List ℕ} → Close n u a a′ → Coupled u (CloseAll n u) (squares n s k a) (squares n s k a′)
+  unfolding squares
+  coupled-squares zero h = coupled-done (close-cons h close-nil)
+  coupled-squares (suc k) h =
+      coupled-bind (coupled-square h) λ b b′ hb. coupled-bind (coupled-squares k hb) λ l l′ hl. coupled-done (close-cons h hl)
+
+  coupled-third : (b : Bool) {xs xs′ ys ys′ : List (List ℕ)} → CloseAll n u xs xs′ → CloseAll n u ys ys′
+      → Coupled u (CloseAll n u) (thirdClass b n s xs ys) (thirdClass b n s xs′ ys′)
+  unfolding thirdClass
+  coupled-third true hx hy = coupled-bind (coupled-product ring u (close-nth hy 0) (close-nth hx 3) s) λ z z′ hz. coupled-squares (n - 1) hz
+  coupled-third false hx hy = coupled-done close-nil
+
+  coupled-powers : {a a′ : List ℕ} → Close n u a a′ → Coupled u (CloseAll n u) (powers n s a) (powers n s a′)
+  unfolding powers
+  coupled-powers h =
+      coupled-bind (coupled-squares (n - 1) h) λ xs xs′ hx.
+      coupled-bind (coupled-product ring u (close-nth hx 0) (close-nth hx 1) s) λ y y′ hy.
+      coupled-bind (coupled-squares (n - 1) hy) λ ys ys′ hys.
+      coupled-bind (coupled-third (eqb n 6) hx hys) λ zs zs′ hz.
+      coupled-done (close-append hx (close-append hys hz))
+
+  coupled-polynomial : (cs : List ℕ) {ws ws′ : List (List ℕ)} → Small n cs → CloseAll n u ws ws′
+      → Coupled u (Close n u) (polynomial n s ws cs) (polynomial n s ws′ cs)
+  unfolding polynomial term
+  coupled-polynomial cs hc hw =
+      coupled-by-share s λ i.
+      coupled-for u (λ r. CloseAt n u i) 0 (length (exponents n) - 1) (omega arith)
+      (λ r v v′ k l h. coupled-bind (coupled-note i (close-mul ring (close-same (hc (r + 1))) (close-at (close-nth hw r) i)))
+      (λ t t′ ht. coupled-note i (close-add h ht)))
+      (constant i (getD cs 0 0)) (constant i (getD cs 0 0)) (close-same (constant-small n i (getD cs 0 0) (hc 0)))
+
+  coupled-polynomials : (css : List (List ℕ)) {ws ws′ : List (List ℕ)} → SmallAll n css → CloseAll n u ws ws′
+      → Coupled u (CloseAll n u) (polynomials n s ws css) (polynomials n s ws′ css)
+  unfolding polynomials
+  coupled-polynomials [] hc hw = coupled-done close-nil
+  coupled-polynomials (cs ∷ css) hc hw =
+      coupled-bind (coupled-polynomial cs (hc 0) hw) λ a a′ ha.
+      coupled-bind (coupled-polynomials css (λ k. hc (suc k)) hw) λ l l′ hl.
+      coupled-done (close-cons ha hl)
+
+  coupled-products : {ps ps′ qs qs′ : List (List ℕ)} → CloseAll n u ps ps′ → CloseAll n u qs qs′ → (j k : ℕ)
+      → Coupled u (CloseAll n u) (products n s ps qs j k) (products n s ps′ qs′ j k)
+  unfolding products
+  coupled-products hp hq j zero = coupled-done close-nil
+  coupled-products hp hq j (suc k) =
+      coupled-bind (coupled-product ring u (close-nth hp j) (close-nth hq j) s) λ a a′ ha.
+      coupled-bind (coupled-products hp hq (suc j) k) λ l l′ hl.
+      coupled-done (close-cons ha hl)
+
+  coupled-total : {ts ts′ : List (List ℕ)} → CloseAll n u ts ts′ → (k : ℕ) → Coupled u (Close n u) (total s ts k) (total s ts′ k)
+  unfolding total
+  coupled-total {ts} {ts′} h k =
+      coupled-by-share s λ i.
+      coupled-for u (λ j. CloseAt n u i) 0 k (omega arith)
+      (λ j v v′ m l g. coupled-note i (close-add g (close-at (close-nth h (j + 1)) i)))
+      (share (nth ts 0) i) (share (nth ts′ 0) i) (close-at (close-nth h 0) i)
+
+  pub coupled-sbox : {qs ps : List (List ℕ)} {a a′ : List ℕ} → Coefficients n qs ps → Close n u a a′
+      → Coupled u (Close n u) (sbox n s qs ps a) (sbox n s qs ps a′)
+  unfolding sbox
+  coupled-sbox {qs} {ps} hc h =
+      coupled-bind (coupled-powers h) λ ws ws′ hw.
+      coupled-bind (coupled-polynomials qs (hc .small-basis) hw) λ bs bs′ hb.
+      coupled-bind (coupled-polynomials ps (hc .small) hw) λ cs cs′ hp.
+      coupled-bind (coupled-products hp hb 0 (length qs)) λ ts ts′ ht.
+      coupled-total (close-append ht (close-cons (close-nth hp (length qs)) close-nil)) (length qs)

@@ -1,0 +1,129 @@
+-- The experiment: its shape, its coupling, its tape, and step 9 of a two-share S-box at width 4.
+use mathlib.Core.Path.{_≡_, refl, sym, ap, ap₂, _∙_}
+use mathlib.Core.Bool.{Bool, true, false, cond}
+use mathlib.Core.List.{List, [], _∷_, _++_}
+use Prim.Native.Nat.{ℕ, zero, suc, _+_, _-_, _*_, _^_, _≤_, _<_}
+use native.Mathlib.Nat.{zero-mul, suc-mul}
+use native.Mathlib.Omega.{arith}
+use lib.ListN.{length, replicate, replicate-append-replicate}
+use Rattle.xor.specs.Xor.{_⊕_}
+use Rattle.xor.specs.Sum.{join}
+use Rattle.field.specs.Mul.{Width, mul}
+use Rattle.field.proofs.Inverses.{field-of}
+use Rattle.steps.specs.Program.{Run, done, _>>=_, _>>_, note, random, loop, for, first, later, trace}
+use Rattle.steps.specs.Watch.{watched}
+use Rattle.steps.specs.Choices.{sum, tally, totalBits, equal, choices}
+use Rattle.steps.specs.Shape.{drawOf, touchesOf, bitsOf, Shaped}
+use Rattle.steps.specs.Coupling.{Coupled}
+use Rattle.steps.specs.Sharing.{share, Sharing, Close}
+use Rattle.steps.specs.Split.{masks, split}
+use Rattle.steps.proofs.Program.{bind-bind}
+use Rattle.steps.proofs.Shape.{shaped-bind, bits-append, touches-append}
+use Rattle.steps.proofs.Coupling.{coupled-bind}
+use Rattle.steps.proofs.Split.{shaped-split, coupled-split, draws-bits, draws-touches}
+use Rattle.steps.proofs.Choices.{sum-same, tally-same, tally-all}
+use Rattle.product.specs.Product.{product, start, row, pair}
+use Rattle.sbox.specs.Sbox.{byShare, square, squares, powers, sbox}
+use Rattle.sbox.specs.Form.{formOf, basisSize, Accepted}
+use Rattle.sbox.specs.Shape.{sboxShape}
+use Rattle.sbox.specs.Figures.{sboxDraws}
+use Rattle.sbox.specs.Experiment.{experiment, experimentShape, choiceBits}
+use Rattle.sbox.proofs.Shape.{shaped-sbox}
+use Rattle.sbox.proofs.Counts.{sbox-bits}
+use Rattle.sbox.proofs.Coupling.{coupled-sbox}
+
+-- ---- the shape
+
+pub experiment-bits : (n s : ℕ) → Width n → bitsOf (experimentShape n s) ≡ choiceBits n s
+unfolding experimentShape choiceBits
+experiment-bits n s w =
+    bits-append (replicate (s - 1) (drawOf n)) (sboxShape n s (basisSize n))
+    ∙ ap₂ (λ (l m : List ℕ). l ++ m) (draws-bits n (s - 1)) (sbox-bits n s w)
+    ∙ replicate-append-replicate (s - 1) (sboxDraws n s) n
+
+pub experiment-touches : (n s : ℕ) → touchesOf (experimentShape n s) ≡ touchesOf (sboxShape n s (basisSize n))
+unfolding experimentShape
+experiment-touches n s =
+    touches-append (replicate (s - 1) (drawOf n)) (sboxShape n s (basisSize n))
+    ∙ ap (λ l. l ++ touchesOf (sboxShape n s (basisSize n))) (draws-touches n (s - 1))
+
+module _ {n : ℕ} {qs ps : List (List ℕ)} (accepted : Accepted n qs ps) (s : ℕ) where
+  pub shaped-experiment : 0 < s → s ≤ 9 → (x : ℕ) → x < 2 ^ n
+      → Shaped (λ c. (length c ≡ 9) × Sharing n s (formOf n qs ps x) c) (experimentShape n s) (experiment n s qs ps x)
+  unfolding experiment experimentShape
+  shaped-experiment some nine x h =
+      shaped-bind (shaped-split n s x some h)
+      (λ a ha. rw (accepted .size) at (shaped-sbox (accepted .width) s x qs ps a some nine (accepted .coefficients) ha))
+
+  -- ---- the coupling
+
+  pub coupled-experiment : (u : ℕ) → u < s → (x y : ℕ) → x < 2 ^ n → y < 2 ^ n
+      → Coupled u (Close n u) (experiment n s qs ps x) (experiment n s qs ps y)
+  unfolding experiment
+  coupled-experiment u l x y hx hy =
+      coupled-bind (coupled-split n s x y u hx hy l)
+      (λ a b h. coupled-sbox (field-of n (accepted .width) .ring) s u (accepted .coefficients) h)
+
+-- ---- the tape
+
+masks-trace : {A : Type 0} (n : ℕ) (l tape : List ℕ) (f : List ℕ → Run A) → trace (masks n (length l) >>= f) (l ++ tape) ≡ trace (f l) tape
+unfolding masks random _>>=_ trace first later
+masks-trace n [] tape f = refl
+masks-trace n (r ∷ l) tape f =
+    ap (λ m. trace m (l ++ tape)) (bind-bind (masks n (length l)) (λ m. done (r ∷ m)) f) ∙ masks-trace n l tape (λ m. f (r ∷ m))
+
+-- the masks are read first, and what is made of the shares goes on from there
+pub split-trace : {A : Type 0} (n s x : ℕ) (l tape : List ℕ) (f : List ℕ → Run A) → length l ≡ s - 1
+    → trace (split n s x >>= f) (l ++ tape) ≡ trace (f (x ⊕ join l ∷ l)) tape
+unfolding split _>>=_
+split-trace n s x l tape f e =
+    ap (λ m. trace m (l ++ tape)) (bind-bind (masks n (s - 1)) (λ l. done (x ⊕ join l ∷ l)) f)
+    ∙ rw (← e) (masks-trace n l tape (λ l. f (x ⊕ join l ∷ l)))
+
+-- ---- counting choices
+
+pub total-bits : (n k : ℕ) → totalBits (replicate k n) ≡ k * n
+unfolding totalBits
+total-bits n zero = sym (zero-mul n)
+total-bits n (suc k) = ap (λ (b : ℕ). n + b) (total-bits n k) ∙ omega (arith, suc-mul k n)
+
+-- a test that does not look at the tape
+tally-of : (bits : List ℕ) (b : Bool) → tally bits (λ tape. b) ≡ cond b (2 ^ totalBits bits) 0
+unfolding tally sum
+tally-of bits true = tally-all bits
+tally-of bits false = none bits
+  where
+    zeros : (k : ℕ) (f : ℕ → ℕ) → ((v : ℕ) → f v ≡ 0) → sum k f ≡ 0
+    zeros zero f h = refl
+    zeros (suc k) f h = ap₂ (λ (x y : ℕ). x + y) (zeros k f h) (h k)
+
+    none : (bits : List ℕ) → tally bits (λ tape. false) ≡ 0
+    none [] = refl
+    none (b ∷ bits) = zeros (2 ^ b) (λ v. tally bits (λ tape. false)) (λ v. none bits)
+
+-- ---- step 9 of a two-share S-box at width 4
+
+-- it is x_0 · x_1 ^ 2
+pub step-nine : (qs ps : List (List ℕ)) (a tape : List ℕ)
+    → watched (9 ∷ []) (trace (sbox 4 2 qs ps a) tape) ≡ mul 4 (share a 0) (mul 4 (share a 1) (share a 1)) ∷ []
+unfolding watched trace sbox powers squares square byShare product start row pair for loop note random _>>=_ _>>_
+step-nine qs ps a tape = refl
+
+-- the same by the secret x and the mask m
+unfoldable pub stepNine : ℕ → ℕ → ℕ
+stepNine x m = mul 4 (x ⊕ join (m ∷ [])) (mul 4 m m)
+
+experiment-step-nine : (qs ps : List (List ℕ)) (x : ℕ) (tape : List ℕ)
+    → watched (9 ∷ []) (trace (experiment 4 2 qs ps x) tape) ≡ stepNine x (first tape) ∷ []
+unfolding stepNine experiment split masks trace random _>>=_
+experiment-step-nine qs ps x tape = step-nine qs ps (x ⊕ join (first tape ∷ []) ∷ first tape ∷ []) (later tape)
+
+-- the choices at which it shows 0, mask by mask: 256 for each mask at which it is 0
+pub step-nine-choices : (qs ps : List (List ℕ)) (x : ℕ)
+    → choices (choiceBits 4 2) (experiment 4 2 qs ps x) (9 ∷ []) (0 ∷ []) ≡ sum 16 (λ m. cond (equal (stepNine x m ∷ []) (0 ∷ [])) 256 0)
+unfolding choices choiceBits sboxDraws tally totalBits first
+step-nine-choices qs ps x =
+    tally-same (4 ∷ 4 ∷ 4 ∷ []) _ (λ tape. equal (stepNine x (first tape) ∷ []) (0 ∷ []))
+    (λ tape f. ap (λ (l : List ℕ). equal l (0 ∷ [])) (experiment-step-nine qs ps x tape))
+    ∙ sum-same 16 (λ m. tally (4 ∷ 4 ∷ []) (λ tape. equal (stepNine x m ∷ []) (0 ∷ []))) _
+    (λ m l. tally-of (4 ∷ 4 ∷ []) (equal (stepNine x m ∷ []) (0 ∷ [])))

@@ -1,0 +1,9 @@
+pub mod ByShare
+pub mod Powers
+pub mod Shape
+pub mod Counts
+pub mod Runs
+pub mod Coupling
+pub mod Places
+pub mod Experiment
+pub mod Secrecy

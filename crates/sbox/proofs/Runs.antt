@@ -1,0 +1,47 @@
+-- What the masked S-box does on a tape of elements of n bits, for an accepted record.
+use mathlib.Core.Path.{_≡_, ap, _∙_}
+use mathlib.Core.List.{List}
+use Prim.Native.Nat.{ℕ, _≤_, _<_}
+use lib.ListN.{length, replicate, drop}
+use Rattle.xor.specs.Sum.{Small}
+use Rattle.steps.specs.Program.{result, trace, draws, products, rest}
+use Rattle.steps.specs.Choices.{Fits}
+use Rattle.steps.specs.Shape.{bitsOf, Shaped}
+use Rattle.steps.specs.Sharing.{Sharing}
+use Rattle.steps.proofs.Choices.{fits-small}
+use Rattle.steps.proofs.Shape.{shaped-result, shaped-steps, shaped-draws, shaped-products, shaped-rest}
+use Rattle.sbox.specs.Sbox.{sbox}
+use Rattle.sbox.specs.Form.{formOf, basisSize, Accepted}
+use Rattle.sbox.specs.Shape.{sboxShape}
+use Rattle.sbox.specs.Figures.{sboxProducts, sboxDraws, sboxSteps}
+use Rattle.sbox.proofs.Shape.{shaped-sbox}
+use Rattle.sbox.proofs.Counts.{sbox-steps, sbox-draws, sbox-products, sbox-bits}
+
+module _ {n : ℕ} {qs ps : List (List ℕ)} (accepted : Accepted n qs ps) (s x : ℕ) (a tape : List ℕ) (some : 0 < s) (nine : s ≤ 9)
+    (sharing : Sharing n s x a) (elements : Small n tape) where
+  shaped : Shaped (λ c. (length c ≡ 9) × Sharing n s (formOf n qs ps x) c) (sboxShape n s (basisSize n)) (sbox n s qs ps a)
+  shaped = rw (accepted .size) at (shaped-sbox (accepted .width) s x qs ps a some nine (accepted .coefficients) sharing)
+
+  fits : Fits (bitsOf (sboxShape n s (basisSize n))) tape
+  fits = rw (sbox-bits n s (accepted .width)) (fits-small n (sboxDraws n s) tape elements)
+
+  -- the result is a sharing of the form at x, in nine places
+  pub result-sharing : Sharing n s (formOf n qs ps x) (result (sbox n s qs ps a) tape)
+  result-sharing = shaped-result shaped tape fits .1
+
+  pub result-places : length (result (sbox n s qs ps a) tape) ≡ 9
+  result-places = shaped-result shaped tape fits .0
+
+  -- so many steps, draws and masked products are taken
+  pub trace-length : length (trace (sbox n s qs ps a) tape) ≡ sboxSteps n s
+  trace-length = shaped-steps shaped tape fits ∙ sbox-steps n s (accepted .width)
+
+  pub draws-are : draws (sbox n s qs ps a) tape ≡ replicate (sboxDraws n s) n
+  draws-are = shaped-draws shaped tape fits ∙ sbox-bits n s (accepted .width)
+
+  pub products-length : length (products 0 (sbox n s qs ps a) tape) ≡ sboxProducts n
+  products-length = shaped-products shaped 0 tape fits ∙ sbox-products n s (accepted .width)
+
+  -- and this is left of the tape
+  pub rest-is : rest (sbox n s qs ps a) tape ≡ drop (sboxDraws n s) tape
+  rest-is = shaped-rest shaped tape fits ∙ ap (λ (k : ℕ). drop k tape) (sbox-draws n s (accepted .width))

@@ -1,0 +1,22 @@
+-- The experiment of demand 3 for the masked S-box: the masks are drawn, and then the steps are taken.
+use mathlib.Core.List.{List, _++_}
+use Prim.Native.Nat.{ℕ, _+_, _-_}
+use lib.ListN.{replicate}
+use Rattle.steps.specs.Program.{Run, _>>=_}
+use Rattle.steps.specs.Shape.{Shape, drawOf}
+use Rattle.steps.specs.Split.{split}
+use Rattle.sbox.specs.Sbox.{sbox}
+use Rattle.sbox.specs.Form.{basisSize}
+use Rattle.sbox.specs.Shape.{sboxShape}
+use Rattle.sbox.specs.Figures.{sboxDraws}
+
+-- shares 1 to s - 1 of the secret x are drawn, share 0 is x plus these, and the S-box is run on the shares
+unfoldable pub experiment : ℕ → ℕ → List (List ℕ) → List (List ℕ) → ℕ → Run (List ℕ)
+experiment n s qs ps x = split n s x >>= sbox n s qs ps
+
+unfoldable pub experimentShape : ℕ → ℕ → Shape
+experimentShape n s = replicate (s - 1) (drawOf n) ++ sboxShape n s (basisSize n)
+
+-- the bits of a choice: n for each of the shares 1 to s - 1, and for each random element that the steps draw
+unfoldable pub choiceBits : ℕ → ℕ → List ℕ
+choiceBits n s = replicate (s - 1 + sboxDraws n s) n

@@ -1,0 +1,100 @@
+-- The masked S-box, step by step, at either width. A sharing is held in nine places, 0 past the shares in use.
+use mathlib.Core.Bool.{Bool, true, false}
+use mathlib.Core.List.{List, [], _∷_, _++_}
+use Prim.Native.Nat.{ℕ, zero, suc, _+_, _-_}
+use lib.Dec.{eqb}
+use lib.ListN.{length, getD, set, replicate}
+use Rattle.xor.specs.Xor.{_⊕_}
+use Rattle.field.specs.Mul.{mul}
+use Rattle.field.specs.Polynomial.{exponents}
+use Rattle.steps.specs.Program.{Run, done, one, _>>=_, note, for}
+use Rattle.steps.specs.Sharing.{share}
+use Rattle.product.specs.Product.{product}
+
+-- a sharing made share by share: f i gives share i
+unfoldable pub byShare : ℕ → (ℕ → Run ℕ) → Run (List ℕ)
+byShare s f = for 0 s (λ i c. do
+  v ← f i
+  done (set c i v)) (replicate 9 0)
+
+-- sharing number k of a list
+abbrev pub nth : List (List ℕ) → ℕ → List ℕ
+nth l k = getD l k []
+
+-- ---- the powers of x
+
+-- the square of a sharing
+unfoldable pub square : ℕ → ℕ → List ℕ → Run (List ℕ)
+square n s a = byShare s (λ i. note (one i) (mul n (share a i) (share a i)))
+
+-- a sharing and k squares, each of the one before
+unfoldable pub squares : ℕ → ℕ → ℕ → List ℕ → Run (List (List ℕ))
+squares n s zero a = done (a ∷ [])
+squares n s (suc k) a = do
+  b ← square n s a
+  l ← squares n s k b
+  done (a ∷ l)
+
+-- at width 6, the class of x ^ 11 = x ^ 3 · x ^ 8
+unfoldable pub thirdClass : Bool → ℕ → ℕ → List (List ℕ) → List (List ℕ) → Run (List (List ℕ))
+thirdClass true n s xs ys = do
+  z ← product n s (nth ys 0) (nth xs 3)
+  squares n s (n - 1) z
+thirdClass false n s xs ys = done []
+
+-- the powers of x by the exponents but the first, in the list's order: the class of x, of x ^ 3 = x · x ^ 2 and, at width 6, of x ^ 11
+unfoldable pub powers : ℕ → ℕ → List ℕ → Run (List (List ℕ))
+powers n s x = do
+  xs ← squares n s (n - 1) x
+  y ← product n s (nth xs 0) (nth xs 1)
+  ys ← squares n s (n - 1) y
+  zs ← thirdClass (eqb n 6) n s xs ys
+  done (xs ++ (ys ++ zs))
+
+-- ---- polynomials of x
+
+-- a constant goes to share 0 only
+unfoldable pub constant : ℕ → ℕ → ℕ
+constant zero c = c
+constant (suc i) c = 0
+
+-- the term of exponent number r + 1, for share i: its product, and the sum with what is there
+unfoldable pub term : ℕ → List ℕ → List (List ℕ) → ℕ → ℕ → ℕ → Run ℕ
+term n cs ws i r u = do
+  v ← note (one i) (mul n (getD cs (r + 1) 0) (share (nth ws r) i))
+  note (one i) (u ⊕ v)
+
+-- the polynomial with the coefficients cs at the powers ws: the constant, and then a term for each later exponent
+unfoldable pub polynomial : ℕ → ℕ → List (List ℕ) → List ℕ → Run (List ℕ)
+polynomial n s ws cs = byShare s (λ i. for 0 (length (exponents n) - 1) (term n cs ws i) (constant i (getD cs 0 0)))
+
+-- several polynomials, one after the other
+unfoldable pub polynomials : ℕ → ℕ → List (List ℕ) → List (List ℕ) → Run (List (List ℕ))
+polynomials n s ws [] = done []
+polynomials n s ws (cs ∷ css) = do
+  a ← polynomial n s ws cs
+  l ← polynomials n s ws css
+  done (a ∷ l)
+
+-- ---- the form p1 · q1 + .. + p(t-1) · q(t-1) + pt
+
+-- the masked products of the first k of the ps and the qs, from number j on
+unfoldable pub products : ℕ → ℕ → List (List ℕ) → List (List ℕ) → ℕ → ℕ → Run (List (List ℕ))
+products n s ps qs j zero = done []
+products n s ps qs j (suc k) = do
+  a ← product n s (nth ps j) (nth qs j)
+  l ← products n s ps qs (suc j) k
+  done (a ∷ l)
+
+-- the first of k + 1 sharings, plus the others in order
+unfoldable pub total : ℕ → List (List ℕ) → ℕ → Run (List ℕ)
+total s ts k = byShare s (λ i. for 0 k (λ j u. note (one i) (u ⊕ share (nth ts (j + 1)) i)) (share (nth ts 0) i))
+
+-- the masked S-box of the sharing x: the basis qs has the coefficients of t - 1 polynomials, ps of t
+unfoldable pub sbox : ℕ → ℕ → List (List ℕ) → List (List ℕ) → List ℕ → Run (List ℕ)
+sbox n s qs ps x = do
+  ws ← powers n s x
+  bs ← polynomials n s ws qs
+  cs ← polynomials n s ws ps
+  ts ← products n s cs bs 0 (length qs)
+  total s (ts ++ (nth cs (length qs) ∷ [])) (length qs)

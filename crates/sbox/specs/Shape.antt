@@ -1,0 +1,39 @@
+-- The shape of the masked S-box, part by part as its steps.
+use mathlib.Core.Bool.{Bool, true, false}
+use mathlib.Core.List.{[], _∷_, _++_}
+use Prim.Native.Nat.{ℕ, zero, suc, _-_}
+use lib.Dec.{eqb}
+use lib.ListN.{length}
+use Rattle.field.specs.Polynomial.{exponents}
+use Rattle.steps.specs.Program.{one}
+use Rattle.steps.specs.Shape.{Shape, stepOf, forShape}
+use Rattle.product.specs.Product.{productShape}
+
+-- one shape, k times
+unfoldable pub times : ℕ → Shape → Shape
+times zero σ = []
+times (suc k) σ = σ ++ times k σ
+
+unfoldable pub squareShape : ℕ → Shape
+squareShape s = forShape 0 s (λ i. stepOf (one i) ∷ [])
+
+unfoldable pub thirdShape : Bool → ℕ → ℕ → Shape
+thirdShape true n s = productShape n s ++ times (n - 1) (squareShape s)
+thirdShape false n s = []
+
+unfoldable pub powersShape : ℕ → ℕ → Shape
+powersShape n s = times (n - 1) (squareShape s) ++ (productShape n s ++ (times (n - 1) (squareShape s) ++ thirdShape (eqb n 6) n s))
+
+unfoldable pub termShape : ℕ → Shape
+termShape i = stepOf (one i) ∷ stepOf (one i) ∷ []
+
+unfoldable pub polynomialShape : ℕ → ℕ → Shape
+polynomialShape n s = forShape 0 s (λ i. forShape 0 (length (exponents n) - 1) (λ r. termShape i))
+
+unfoldable pub totalShape : ℕ → ℕ → Shape
+totalShape s k = forShape 0 s (λ i. forShape 0 k (λ j. stepOf (one i) ∷ []))
+
+-- the masked S-box at width n, of s shares, with k polynomials in the basis
+unfoldable pub sboxShape : ℕ → ℕ → ℕ → Shape
+sboxShape n s k =
+    powersShape n s ++ (times k (polynomialShape n s) ++ (times (suc k) (polynomialShape n s) ++ (times k (productShape n s) ++ totalShape s k)))

@@ -1,0 +1,1 @@
+// The masked S-box.

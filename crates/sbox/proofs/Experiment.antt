@@ -1,23 +1,20 @@
 -- The experiment: its shape, its coupling, its tape, and step 9 of a two-share S-box at width 4.
-use mathlib.Core.Path.{_≡_, refl, sym, ap, ap₂, _∙_}
+use mathlib.Core.Path.{_≡_, refl, ap, ap₂, _∙_}
 use mathlib.Core.Bool.{Bool, true, false, cond}
 use mathlib.Core.List.{List, [], _∷_, _++_}
-use Prim.Native.Nat.{ℕ, zero, suc, _+_, _-_, _*_, _^_, _≤_, _<_}
-use native.Mathlib.Nat.{zero-mul, suc-mul}
-use native.Mathlib.Omega.{arith}
+use Prim.Native.Nat.{ℕ, zero, suc, _+_, _-_, _^_, _≤_, _<_}
 use lib.ListN.{length, replicate, replicate-append-replicate}
 use Rattle.xor.specs.Xor.{_⊕_}
 use Rattle.xor.specs.Sum.{join}
 use Rattle.field.specs.Mul.{Width, mul}
 use Rattle.field.proofs.Inverses.{field-of}
-use Rattle.steps.specs.Program.{Run, done, _>>=_, _>>_, note, random, loop, for, first, later, trace}
+use Rattle.steps.specs.Program.{_>>=_, _>>_, note, random, loop, for, first, later, trace}
 use Rattle.steps.specs.Watch.{watched}
 use Rattle.steps.specs.Choices.{sum, tally, totalBits, equal, choices}
 use Rattle.steps.specs.Shape.{drawOf, touchesOf, bitsOf, Shaped}
 use Rattle.steps.specs.Coupling.{Coupled}
 use Rattle.steps.specs.Sharing.{share, Sharing, Close}
 use Rattle.steps.specs.Split.{masks, split}
-use Rattle.steps.proofs.Program.{bind-bind}
 use Rattle.steps.proofs.Shape.{shaped-bind, bits-append, touches-append}
 use Rattle.steps.proofs.Coupling.{coupled-bind}
 use Rattle.steps.proofs.Split.{shaped-split, coupled-split, draws-bits, draws-touches}
@@ -64,28 +61,7 @@ module _ {n : ℕ} {qs ps : List (List ℕ)} (accepted : Accepted n qs ps) (s : 
       coupled-bind (coupled-split n s x y u hx hy l)
       (λ a b h. coupled-sbox (field-of n (accepted .width) .ring) s u (accepted .coefficients) h)
 
--- ---- the tape
-
-masks-trace : {A : Type 0} (n : ℕ) (l tape : List ℕ) (f : List ℕ → Run A) → trace (masks n (length l) >>= f) (l ++ tape) ≡ trace (f l) tape
-unfolding masks random _>>=_ trace first later
-masks-trace n [] tape f = refl
-masks-trace n (r ∷ l) tape f =
-    ap (λ m. trace m (l ++ tape)) (bind-bind (masks n (length l)) (λ m. done (r ∷ m)) f) ∙ masks-trace n l tape (λ m. f (r ∷ m))
-
--- the masks are read first, and what is made of the shares goes on from there
-pub split-trace : {A : Type 0} (n s x : ℕ) (l tape : List ℕ) (f : List ℕ → Run A) → length l ≡ s - 1
-    → trace (split n s x >>= f) (l ++ tape) ≡ trace (f (x ⊕ join l ∷ l)) tape
-unfolding split _>>=_
-split-trace n s x l tape f e =
-    ap (λ m. trace m (l ++ tape)) (bind-bind (masks n (s - 1)) (λ l. done (x ⊕ join l ∷ l)) f)
-    ∙ rw (← e) (masks-trace n l tape (λ l. f (x ⊕ join l ∷ l)))
-
 -- ---- counting choices
-
-pub total-bits : (n k : ℕ) → totalBits (replicate k n) ≡ k * n
-unfolding totalBits
-total-bits n zero = sym (zero-mul n)
-total-bits n (suc k) = ap (λ (b : ℕ). n + b) (total-bits n k) ∙ omega (arith, suc-mul k n)
 
 -- a test that does not look at the tape
 tally-of : (bits : List ℕ) (b : Bool) → tally bits (λ tape. b) ≡ cond b (2 ^ totalBits bits) 0

@@ -17,15 +17,15 @@ use Rattle.steps.specs.Choices.{Fits, sum, equal, choices}
 use Rattle.steps.specs.Shape.{touchesOf}
 use Rattle.steps.specs.Sharing.{Sharing, Close}
 use Rattle.steps.proofs.Shape.{shaped-draws}
-use Rattle.steps.proofs.Choices.{tally-all}
+use Rattle.steps.proofs.Choices.{tally-all, total-bits}
+use Rattle.steps.proofs.Split.{split-trace}
 use Rattle.steps.proofs.Secrecy.{untouched-share, few-steps}
 use Rattle.sbox.specs.Sbox.{sbox}
 use Rattle.sbox.specs.Form.{formOf, basisSize, Accepted}
 use Rattle.sbox.specs.Shape.{sboxShape}
 use Rattle.sbox.specs.Figures.{sboxDraws}
 use Rattle.sbox.specs.Experiment.{experiment, experimentShape, choiceBits}
-use Rattle.sbox.proofs.Experiment.{experiment-bits, experiment-touches, shaped-experiment, coupled-experiment, split-trace, total-bits}
-use Rattle.sbox.proofs.Experiment.{stepNine, step-nine-choices}
+use Rattle.sbox.proofs.Experiment.{experiment-bits, experiment-touches, shaped-experiment, coupled-experiment, stepNine, step-nine-choices}
 
 -- ---- what a choice is
 

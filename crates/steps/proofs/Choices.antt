@@ -127,3 +127,9 @@ equal-refl (x ∷ l) = go (eqb x x) (eqb-refl x) (equal-refl l)
     go : (c : Bool) → T c → T (equal l l) → T (c && equal l l)
     go true p q = q
     go false p q = p
+
+-- k elements of n bits have k * n bits
+pub total-bits : (n k : ℕ) → totalBits (replicate k n) ≡ k * n
+unfolding totalBits
+total-bits n zero = sym (zero-mul n)
+total-bits n (suc k) = ap (λ (b : ℕ). n + b) (total-bits n k) ∙ omega (arith, suc-mul k n)

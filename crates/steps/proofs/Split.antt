@@ -11,12 +11,12 @@ use Rattle.xor.specs.Xor.{_⊕_}
 use Rattle.xor.specs.Sum.{join, Small}
 use Rattle.xor.proofs.Xor.{⊕-lt, ⊕-zero, xor}
 use Rattle.xor.proofs.Sum.{small-head, small-tail, small-cons, join-nil, join-cons, join-small, join-split}
-use Rattle.steps.specs.Program.{Run, done, _>>=_, random, first, later, result}
+use Rattle.steps.specs.Program.{Run, done, _>>=_, random, first, later, result, trace}
 use Rattle.steps.specs.Shape.{drawOf, Shape, touchesOf, bitsOf, Shaped, shaped-done, shaped-draw}
 use Rattle.steps.specs.Coupling.{Coupled, coupled-done, coupled-draw}
 use Rattle.steps.specs.Sharing.{Sharing, Close, CloseAll, close-nil, close-cons}
 use Rattle.steps.specs.Split.{masks, split, splitAll}
-use Rattle.steps.proofs.Program.{result-bind}
+use Rattle.steps.proofs.Program.{result-bind, bind-bind}
 use Rattle.steps.proofs.Shape.{shaped-bind, shaped-map}
 use Rattle.steps.proofs.Coupling.{coupled-bind, coupled-self}
 
@@ -56,6 +56,20 @@ pub split-result : (n s x : ℕ) (tape : List ℕ) → length tape ≡ s - 1 →
 unfolding split result
 split-result n s x tape e =
     result-bind (masks n (s - 1)) (λ l. done (x ⊕ join l ∷ l)) tape ∙ ap (λ (l : List ℕ). x ⊕ join l ∷ l) (masks-result n (s - 1) tape e)
+
+-- a tape that begins with the masks: they are read first, and what is made of the shares goes on from there
+masks-trace : {A : Type 0} (n : ℕ) (l tape : List ℕ) (f : List ℕ → Run A) → trace (masks n (length l) >>= f) (l ++ tape) ≡ trace (f l) tape
+unfolding masks random _>>=_ trace first later
+masks-trace n [] tape f = refl
+masks-trace n (r ∷ l) tape f =
+    ap (λ m. trace m (l ++ tape)) (bind-bind (masks n (length l)) (λ m. done (r ∷ m)) f) ∙ masks-trace n l tape (λ m. f (r ∷ m))
+
+pub split-trace : {A : Type 0} (n s x : ℕ) (l tape : List ℕ) (f : List ℕ → Run A) → length l ≡ s - 1
+    → trace (split n s x >>= f) (l ++ tape) ≡ trace (f (x ⊕ join l ∷ l)) tape
+unfolding split _>>=_
+split-trace n s x l tape f e =
+    ap (λ m. trace m (l ++ tape)) (bind-bind (masks n (s - 1)) (λ l. done (x ⊕ join l ∷ l)) f)
+    ∙ rw (← e) (masks-trace n l tape (λ l. f (x ⊕ join l ∷ l)))
 
 -- whatever the tape, they join to the secret
 pub split-joins : (n s x : ℕ) (tape : List ℕ) → join (result (split n s x) tape) ≡ x

@@ -1,10 +1,12 @@
 -- The first entry that is too large, as a search comes to it, and what follows where there is none.
-use mathlib.Core.Path.{_≡_, refl}
+use mathlib.Core.Path.{_≡_, refl, ap₂}
+use mathlib.Core.Bool.{Bool, cond}
 use mathlib.Core.List.{List, [], _∷_}
 use Prim.Native.Nat.{ℕ, zero, suc, _≤_, _<_}
 use native.Mathlib.Decide.{decLt}
 use native.Mathlib.Omega.{arith}
 use borrow.Author.Tests.{lt-ltb, le-ltb}
+use lib.Dec.{ltb}
 use lib.ListN.{length, getD, drop}
 use lib.Seq.{drop-cons, drop-length}
 use Rattle.refusal.specs.Large.{firstLarge}
@@ -38,3 +40,13 @@ pub all-small : (bound : ℕ) (l : List ℕ) → 0 < bound → length l ≤ firs
 all-small bound [] p h k = p
 all-small bound (x ∷ l) p h zero = none-cons bound x l h .0
 all-small bound (x ∷ l) p h (suc k) = all-small bound l p (none-cons bound x l h .1) k
+
+-- two lists of one length that have their entries that are too large at the same places
+pub large-same : (bound : ℕ) (l m : List ℕ) → length l ≡ length m → ((i : ℕ) → ltb (getD l i 0) bound ≡ ltb (getD m i 0) bound)
+    → firstLarge bound l ≡ firstLarge bound m
+unfolding firstLarge
+large-same bound [] [] e h = refl
+large-same bound [] (y ∷ m) e h = absurd (omega arith)
+large-same bound (x ∷ l) [] e h = absurd (omega arith)
+large-same bound (x ∷ l) (y ∷ m) e h =
+    ap₂ (λ (b : Bool) (k : ℕ). cond b (suc k) 0) (h 0) (large-same bound l m (omega arith) (λ i. h (suc i)))

@@ -26,3 +26,17 @@ pub fn first_large(bound: u8, entries: &[u8]) -> usize
     }
     i
 }
+
+// The place of the first step number that is not below the total, or the length if there is none.
+pub fn first_past(total: u32, list: &[u32]) -> usize
+    ensures { λ r. ⌜ r ≡ firstLarge total (now (list .entry)) ⌝ }
+{
+    let mut i = 0;
+    while i < list.len() {
+        if list[i] >= total {
+            return i;
+        }
+        i += 1;
+    }
+    i
+}

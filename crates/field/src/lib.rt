@@ -57,8 +57,8 @@ fn double(width: u32, a: u8) -> u8
     }
 }
 
-// The product by double and add, the lowest bit of b first.
-fn double_and_add(width: u32, a: u8, b: u8) -> u8
+// The product by double and add, the lowest bit of b first: for a caller that tests the width outside its own loops.
+pub fn double_and_add(width: u32, a: u8, b: u8) -> u8
     requires { ⌜ Width width ⌝ }
     ensures { λ r. ⌜ r ≡ spec.mul width a b ⌝ }
 {

@@ -37,9 +37,9 @@ fn pair(
 {
     let at = n.random;
     let r = steps::draw(width, random, at);
-    let x = field::mul(width, a[i], b[j]);
+    let x = field::double_and_add(width, a[i], b[j]);
     let y = r ^ x;
-    let z = field::mul(width, a[j], b[i]);
+    let z = field::double_and_add(width, a[j], b[i]);
     let q = y ^ z;
     let u = c[i] ^ r;
     let v = c[j] ^ q;
@@ -109,6 +109,32 @@ fn rows(
         i += 1;
     }
     n
+}
+
+// The same, with the width tested outside the loops: so the loops of a pair's two products are of known length at each width.
+fn pairs(
+    width: u32,
+    s: usize,
+    a: &[u8; 9],
+    b: &[u8; 9],
+    random: &[u8],
+    watch: &[u32],
+    values: &mut [u8],
+    c: &mut [u8; 9],
+    n: Counts,
+) -> Counts
+    requires { ⌜ Width width ⌝ }
+    requires { ⌜ s ≤ 9 ⌝ }
+    requires { ⌜ Ready 0 (eachPair 1 s 0) (eachPair 7 s 0) n (elements width (now random)) (now watch) (now values) ⌝ }
+    ensures { λ r. ⌜ Went 0 (eachPair 1 s 0) (eachPair 7 s 0) (elements width (now (random .entry))) (now (watch .entry))
+        (for 0 s (spec.row width s (now (a .entry)) (now (b .entry))) (now (c .entry)))
+        n (now (values .entry)) (now (c .exit)) r (now (values .exit)) ⌝ }
+{
+    if width == 4 {
+        rows(4, s, a, b, random, watch, values, c, n)
+    } else {
+        rows(6, s, a, b, random, watch, values, c, n)
+    }
 }
 
 // The product of share i of a and share i of b.
@@ -194,7 +220,7 @@ pub fn product(
         steps: n.steps,
     };
     let n = starts(width, s, a, b, random, watch, &mut *values, &mut c, n);
-    let n = rows(width, s, a, b, random, watch, values, &mut c, n);
+    let n = pairs(width, s, a, b, random, watch, values, &mut c, n);
     Masked {
         shares: c,
         counts: n,

@@ -8,23 +8,23 @@ use Rattle.product.proofs.pair.Tie as tie
 draw-requires : tie.Need-draw-requires
 draw-requires c κs = search needs
 
-element-copy-out-mul : tie.Need-element-copy-out-mul
-element-copy-out-mul c = search needs
+element-copy-out-double-and-add : tie.Need-element-copy-out-double-and-add
+element-copy-out-double-and-add c = search needs
 
-element-copy-out-mul-2 : tie.Need-element-copy-out-mul-2
-element-copy-out-mul-2 c = search needs
+element-copy-out-double-and-add-2 : tie.Need-element-copy-out-double-and-add-2
+element-copy-out-double-and-add-2 c = search needs
 
-mul-requires : tie.Need-mul-requires
-mul-requires c κs = search needs
+double-and-add-requires : tie.Need-double-and-add-requires
+double-and-add-requires c κs = search needs
 
-element-copy-out-mul-3 : tie.Need-element-copy-out-mul-3
-element-copy-out-mul-3 c = search needs
+element-copy-out-double-and-add-3 : tie.Need-element-copy-out-double-and-add-3
+element-copy-out-double-and-add-3 c = search needs
 
-element-copy-out-mul-4 : tie.Need-element-copy-out-mul-4
-element-copy-out-mul-4 c = search needs
+element-copy-out-double-and-add-4 : tie.Need-element-copy-out-double-and-add-4
+element-copy-out-double-and-add-4 c = search needs
 
-mul-requires-2 : tie.Need-mul-requires-2
-mul-requires-2 c κs = search needs
+double-and-add-requires-2 : tie.Need-double-and-add-requires-2
+double-and-add-requires-2 c κs = search needs
 
 element-copy-out-u : tie.Need-element-copy-out-u
 element-copy-out-u c = search needs
@@ -64,12 +64,12 @@ pair-spec =
     tie.close
     (tie.spec
     draw-requires
-    element-copy-out-mul
-    element-copy-out-mul-2
-    mul-requires
-    element-copy-out-mul-3
-    element-copy-out-mul-4
-    mul-requires-2
+    element-copy-out-double-and-add
+    element-copy-out-double-and-add-2
+    double-and-add-requires
+    element-copy-out-double-and-add-3
+    element-copy-out-double-and-add-4
+    double-and-add-requires-2
     element-copy-out-u
     element-copy-out-v
     slice-aggregate-record-all

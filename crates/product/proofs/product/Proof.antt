@@ -12,8 +12,8 @@ add-begun c = search needs
 starts-requires : tie.Need-starts-requires
 starts-requires c κs = (search needs, (search needs, omega arith))
 
-rows-requires : tie.Need-rows-requires
-rows-requires c κs = (search needs, (search needs, omega arith))
+pairs-requires : tie.Need-pairs-requires
+pairs-requires c κs = (search needs, (search needs, omega arith))
 
 same-length : tie.Need-same-length
 same-length c = search needs
@@ -29,4 +29,4 @@ returns c =
     }
 
 pub product-spec : {M : Type 1} → statement M
-product-spec = tie.close (tie.spec add-begun starts-requires rows-requires same-length returns)
+product-spec = tie.close (tie.spec add-begun starts-requires pairs-requires same-length returns)

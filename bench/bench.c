@@ -1,0 +1,337 @@
+// Measures the library against the plain C and prints one table. `bench/run` builds and runs it.
+//
+// BUILDS lists the builds of plain.c. CAPI says that the library's C interface is linked. With an argument, nothing is timed: each operation
+// is run a fixed number of times for callgrind to count its instructions, which writes them to a file of its own for each line printed.
+#define _POSIX_C_SOURCE 200809L
+#include "check.h"
+#include "inputs.h"
+#include <stdio.h>
+#include <stdlib.h>
+#include <string.h>
+#include <time.h>
+#ifdef CAPI
+#include <lemonludo.h>
+#endif
+#ifdef CALLGRIND
+#include <valgrind/callgrind.h>
+#endif
+
+// The export of crates/bench_product: a slice is a pointer and a length.
+void bench_product(uint32_t width, uint32_t s, const uint8_t *a, size_t a_len, const uint8_t *b, size_t b_len,
+    const uint8_t *random, size_t random_len, uint8_t *out, size_t out_len);
+
+#define BUILD(name) extern const struct plain plain_##name;
+BUILDS
+#undef BUILD
+#define BUILD(name) &plain_##name,
+static const struct plain *const builds[] = {BUILDS};
+#undef BUILD
+enum { BUILD_COUNT = sizeof builds / sizeof builds[0] };
+
+// ---- inputs
+
+// The arguments of the operation that is measured. The sharings are taken in turns: a call reads nothing that was written just before it.
+enum { TURNS = 16 };
+static struct {
+    unsigned width;
+    size_t s;
+    struct sizes z;
+    size_t turn;
+    uint8_t a[TURNS][SHARES], b[TURNS][SHARES];
+    uint8_t record[RECORD_6], table[ELEMENTS_6], work[WORK_6];
+    uint8_t key[10 * SHARES], block[8 * SHARES], random[527 * SHARES * (SHARES - 1)];
+    uint8_t out[RECORD_6];
+} in;
+
+static void prepare(unsigned width, size_t s)
+{
+    memset(&in, 0, sizeof in);
+    number = FIRST_NUMBER;
+    in.width = width;
+    in.s = s;
+    in.z = sizes_of(width);
+    if (width == 4) {
+        memcpy(in.table, present_sbox, ELEMENTS_4);
+        builds[0]->fit(4, in.table, ELEMENTS_4, house_basis, in.z.basis, in.work, in.z.work, in.record, in.z.record);
+    } else
+        fill_record_6(builds[0], in.record, in.table);
+    for (size_t i = 0; i < TURNS; i++) {
+        fill_below(1u << width, in.a[i], s);
+        fill_below(1u << width, in.b[i], s);
+    }
+    fill_below(256, in.key, 10 * s);
+    fill_below(256, in.block, 8 * s);
+    fill_below(1u << width, in.random, sizeof in.random);
+}
+
+static size_t next_turn(void)
+{
+    size_t turn = in.turn;
+    in.turn = (turn + 1) % TURNS;
+    return turn;
+}
+
+// ---- the operations, by the library where `by` is a null pointer, else by that build of the plain C
+
+static void run_product(const struct plain *by)
+{
+    const uint8_t *a = in.a[in.turn], *b = in.b[next_turn()];
+    if (by == NULL)
+        bench_product(in.width, (uint32_t)in.s, a, SHARES, b, SHARES, in.random, pairs(in.s), in.out, SHARES);
+    else
+        by->product(in.width, in.s, a, SHARES, b, SHARES, in.random, pairs(in.s), in.out, SHARES);
+}
+
+static void run_sbox(const struct plain *by)
+{
+    const uint8_t *x = in.a[next_turn()];
+    size_t n = in.z.products * pairs(in.s);
+    if (by != NULL)
+        by->sbox(in.record, in.z.record, in.s, x, in.s, in.random, n, in.out, in.s);
+#ifdef CAPI
+    uint64_t answer[4];
+    if (by == NULL)
+        ll_sbox(in.record, in.z.record, (uint32_t)in.s, x, in.s, in.random, n, in.out, in.s, answer);
+#endif
+}
+
+static void run_block(const struct plain *by)
+{
+    size_t n = 527 * in.s * (in.s - 1);
+    if (by != NULL)
+        by->block(in.record, in.z.record, in.s, in.key, 10 * in.s, in.block, 8 * in.s, in.random, n, in.out, 8 * in.s);
+#ifdef CAPI
+    uint64_t answer[4];
+    if (by == NULL)
+        ll_block(in.record, in.z.record, (uint32_t)in.s, in.key, 10 * in.s, in.block, 8 * in.s, in.random, n, in.out, 8 * in.s, answer);
+#endif
+}
+
+static void run_fit(const struct plain *by)
+{
+    if (by != NULL)
+        by->fit(in.width, in.table, in.z.elements, in.record + 6, in.z.basis, in.work, in.z.work, in.out, in.z.record);
+#ifdef CAPI
+    uint64_t answer[4];
+    if (by == NULL)
+        ll_fit(in.width, in.table, in.z.elements, in.record + 6, in.z.basis, in.work, in.z.work, in.out, in.z.record, answer);
+#endif
+}
+
+static void run_house_fit(const struct plain *by)
+{
+    if (by != NULL)
+        by->fit(4, in.table, in.z.elements, house_basis, in.z.basis, in.work, in.z.work, in.out, in.z.record);
+#ifdef CAPI
+    uint64_t answer[4];
+    if (by == NULL)
+        ll_house_fit(in.table, in.z.elements, in.work, in.z.work, in.out, in.z.record, answer);
+#endif
+}
+
+static void run_present(const struct plain *by)
+{
+    by->present(in.key, in.block, in.out);
+}
+
+#ifdef CAPI
+enum { HAS_CAPI = 1 };
+#else
+enum { HAS_CAPI = 0 };
+#endif
+
+struct operation {
+    const char *name;
+    void (*run)(const struct plain *);
+    unsigned width;
+    size_t s;
+    // whether it is in what is linked of the library
+    int built;
+    // the ratio that the library is to stay under
+    double target;
+};
+
+static const struct operation operations[] = {
+    {"masked product", run_product, 4, 1, 1, 1.2},
+    {"masked product", run_product, 4, 3, 1, 1.2},
+    {"masked product", run_product, 4, 5, 1, 1.2},
+    {"masked product", run_product, 4, 9, 1, 1.2},
+    {"masked product", run_product, 6, 1, 1, 1.2},
+    {"masked product", run_product, 6, 3, 1, 1.2},
+    {"masked product", run_product, 6, 5, 1, 1.2},
+    {"masked product", run_product, 6, 9, 1, 1.2},
+    {"masked S-box", run_sbox, 4, 1, HAS_CAPI, 1.2},
+    {"masked S-box", run_sbox, 4, 3, HAS_CAPI, 1.2},
+    {"masked S-box", run_sbox, 4, 5, HAS_CAPI, 1.2},
+    {"masked S-box", run_sbox, 4, 7, HAS_CAPI, 1.2},
+    {"masked S-box", run_sbox, 4, 9, HAS_CAPI, 1.2},
+    {"masked S-box", run_sbox, 6, 1, HAS_CAPI, 1.2},
+    {"masked S-box", run_sbox, 6, 3, HAS_CAPI, 1.2},
+    {"masked S-box", run_sbox, 6, 5, HAS_CAPI, 1.2},
+    {"masked S-box", run_sbox, 6, 7, HAS_CAPI, 1.2},
+    {"masked S-box", run_sbox, 6, 9, HAS_CAPI, 1.2},
+    {"Fit", run_fit, 4, 1, HAS_CAPI, 1.5},
+    {"Fit", run_fit, 6, 1, HAS_CAPI, 1.5},
+    {"House fit", run_house_fit, 4, 1, HAS_CAPI, 1.5},
+    {"masked PRESENT-80", run_block, 4, 1, HAS_CAPI, 1.2},
+    {"masked PRESENT-80", run_block, 4, 3, HAS_CAPI, 1.2},
+    {"masked PRESENT-80", run_block, 4, 5, HAS_CAPI, 1.2},
+    {"masked PRESENT-80", run_block, 4, 9, HAS_CAPI, 1.2},
+    // without masking, in plain C only
+    {"PRESENT-80", run_present, 4, 1, 0, 0},
+};
+enum { OPERATION_COUNT = sizeof operations / sizeof operations[0] };
+
+static void fail(const char *what, const char *of)
+{
+    fprintf(stderr, "bench: %s: %s\n", of, what);
+    exit(1);
+}
+
+// The library and the plain C give the same output, share by share.
+static void compare(const struct operation *o)
+{
+    uint8_t expected[sizeof in.out];
+    prepare(o->width, o->s);
+    for (size_t turn = 0; turn < TURNS && o->built; turn++) {
+        o->run(NULL);
+        memcpy(expected, in.out, sizeof expected);
+        in.turn = turn;
+        o->run(builds[0]);
+        if (memcmp(in.out, expected, sizeof expected) != 0)
+            fail("the library and the plain C differ", o->name);
+    }
+}
+
+// ---- time
+
+static double seconds(void)
+{
+    struct timespec t;
+    clock_gettime(CLOCK_MONOTONIC, &t);
+    return (double)t.tv_sec + 1e-9 * (double)t.tv_nsec;
+}
+
+static double batch(const struct operation *o, const struct plain *by, unsigned calls)
+{
+    double start = seconds();
+    for (unsigned i = 0; i < calls; i++)
+        o->run(by);
+    return seconds() - start;
+}
+
+// The best times of a call so far, in seconds.
+struct times {
+    unsigned calls;
+    double library, plain[BUILD_COUNT];
+};
+
+static void keep_best(double *best, double t)
+{
+    if (*best == 0 || t < *best)
+        *best = t;
+}
+
+// Some batches of half a millisecond, the library and the builds in turns.
+static void measure(const struct operation *o, struct times *best)
+{
+    prepare(o->width, o->s);
+    if (best->calls == 0)
+        for (best->calls = 1; batch(o, builds[0], best->calls) < 5e-4;)
+            best->calls *= 2;
+    for (unsigned round = 0; round < 20; round++) {
+        if (o->built)
+            keep_best(&best->library, batch(o, NULL, best->calls) / best->calls);
+        for (size_t k = 0; k < BUILD_COUNT; k++)
+            keep_best(&best->plain[k], batch(o, builds[k], best->calls) / best->calls);
+    }
+}
+
+static void print_time(double t)
+{
+    if (t < 1e-5)
+        printf(" %9.1f ns", t * 1e9);
+    else
+        printf(" %9.2f us", t * 1e6);
+}
+
+static void print_line(const struct operation *o, const struct times *t, double unmasked)
+{
+    printf("%-18s %5u %6zu", o->name, o->width, o->s);
+    if (o->built)
+        print_time(t->library);
+    else
+        printf(" %12s", o->run == run_present ? "" : "not built");
+    for (size_t k = 0; k < BUILD_COUNT; k++) {
+        double ratio = t->library / t->plain[k];
+        print_time(t->plain[k]);
+        if (o->built)
+            printf(" %5.2f%c", ratio, k == 0 && ratio > o->target ? '*' : ' ');
+        else
+            printf(" %6s", "");
+    }
+    if (o->built && o->run == run_block)
+        printf(" %8.1f", t->library / unmasked);
+    printf("\n");
+}
+
+// Each operation is measured in several passes over all of them, so that a busy moment of the machine spoils none.
+static void print_table(void)
+{
+    static struct times best[OPERATION_COUNT];
+    for (unsigned pass = 0; pass < 6; pass++)
+        for (size_t i = 0; i < OPERATION_COUNT; i++)
+            measure(operations + i, best + i);
+    printf("%-18s %5s %6s %12s", "operation", "width", "shares", "library");
+    for (size_t k = 0; k < BUILD_COUNT; k++)
+        printf(" %12s %6s", builds[k]->name, "ratio");
+    printf(" %8s\n", "penalty");
+    for (size_t i = 0; i < OPERATION_COUNT; i++)
+        print_line(operations + i, best + i, best[OPERATION_COUNT - 1].plain[0]);
+    printf("* above the target of 1.2, for Fit 1.5; penalty: the library's time over that of PRESENT-80 without masking by %s\n", builds[0]->name);
+}
+
+// ---- instructions
+
+#ifdef CALLGRIND
+static void count_instructions(void)
+{
+    enum { CALLS = 20 };
+    for (size_t i = 0; i < OPERATION_COUNT; i++) {
+        const struct operation *o = operations + i;
+        for (size_t k = 0; k <= BUILD_COUNT; k++) {
+            const struct plain *by = k == 0 ? NULL : builds[k - 1];
+            if (by == NULL && !o->built)
+                continue;
+            prepare(o->width, o->s);
+            CALLGRIND_ZERO_STATS;
+            for (unsigned c = 0; c < CALLS; c++)
+                o->run(by);
+            CALLGRIND_DUMP_STATS;
+            printf("%s,%u,%zu,%s,%d\n", o->name, o->width, o->s, by == NULL ? "library" : by->name, CALLS);
+        }
+    }
+}
+#endif
+
+int main(int argc, char **argv)
+{
+    (void)argv;
+    for (size_t k = 0; k < BUILD_COUNT; k++) {
+        const char *wrong = check_plain(builds[k]);
+        if (wrong != NULL)
+            fail(wrong, builds[k]->name);
+    }
+    for (size_t i = 0; i < OPERATION_COUNT; i++)
+        compare(operations + i);
+#ifdef CALLGRIND
+    if (argc > 1) {
+        count_instructions();
+        return 0;
+    }
+#else
+    (void)argc;
+#endif
+    print_table();
+    return 0;
+}

@@ -1,0 +1,141 @@
+// The self-test of the plain C: worked examples, joined values, and the published vectors of PRESENT-80.
+#include "check.h"
+#include "inputs.h"
+#include <string.h>
+
+// The product of two elements, as the masked product of one share.
+static uint8_t product_of(const struct plain *p, unsigned width, uint8_t a, uint8_t b)
+{
+    uint8_t x[SHARES] = {a}, y[SHARES] = {b}, c[SHARES];
+    return p->product(width, 1, x, SHARES, y, SHARES, x, 0, c, SHARES) == 0 ? c[0] : 255;
+}
+
+static int field_examples(const struct plain *p)
+{
+    return product_of(p, 4, 2, 8) == 3 && product_of(p, 4, 9, 9) == 13 && product_of(p, 4, 15, 15) == 10 && product_of(p, 6, 32, 32) == 48;
+}
+
+static int product_example(const struct plain *p)
+{
+    const uint8_t a[SHARES] = {1, 2, 0}, b[SHARES] = {4, 0, 1}, random[3] = {1, 2, 3}, expected[SHARES] = {7, 10, 2};
+    uint8_t c[SHARES];
+    return p->product(4, 3, a, SHARES, b, SHARES, random, 3, c, SHARES) == 0 && memcmp(c, expected, SHARES) == 0;
+}
+
+// The shares of a product join to the product of the joined factors.
+static int product_joins(const struct plain *p, unsigned width, size_t s)
+{
+    uint8_t a[SHARES] = {0}, b[SHARES] = {0}, random[SHARES * SHARES], c[SHARES];
+    fill_below(1u << width, a, s);
+    fill_below(1u << width, b, s);
+    fill_below(1u << width, random, pairs(s));
+    return p->product(width, s, a, SHARES, b, SHARES, random, pairs(s), c, SHARES) == 0
+        && join(c, SHARES, 1) == product_of(p, width, join(a, s, 1), join(b, s, 1));
+}
+
+// At each input, shared at random, the shares of the S-box join to the table's entry.
+static int sbox_joins(const struct plain *p, unsigned width, size_t s, const uint8_t *record, const uint8_t *table)
+{
+    struct sizes z = sizes_of(width);
+    size_t n = z.products * pairs(s);
+    uint8_t shares[SHARES], random[5 * SHARES * SHARES], out[SHARES];
+    for (size_t x = 0; x < z.elements; x++) {
+        fill_below((uint32_t)z.elements, shares, s);
+        shares[0] ^= join(shares, s, 1) ^ (uint8_t)x;
+        fill_below((uint32_t)z.elements, random, n);
+        if (p->sbox(record, z.record, s, shares, s, random, n, out, s) != 0 || join(out, s, 1) != table[x])
+            return 0;
+    }
+    return 1;
+}
+
+// Fit finds a record of the table over the basis, and leaves zeros.
+static int fits(const struct plain *p, unsigned width, const uint8_t *table, const uint8_t *basis, uint8_t *record)
+{
+    struct sizes z = sizes_of(width);
+    uint8_t work[WORK_6] = {0};
+    if (p->fit(width, table, z.elements, basis, z.basis, work, z.work, record, z.record) != 0)
+        return 0;
+    for (size_t i = 0; i < z.work; i++)
+        if (work[i] != 0)
+            return 0;
+    return 1;
+}
+
+// With a zero basis the table 1, 0 .. 0 has no record, and the identity has one.
+static int zero_basis(const struct plain *p)
+{
+    uint8_t basis[COEFFICIENTS_4] = {0}, unit[ELEMENTS_4] = {1}, identity[ELEMENTS_4], work[WORK_4], record[RECORD_4];
+    for (unsigned x = 0; x < ELEMENTS_4; x++)
+        identity[x] = (uint8_t)x;
+    return p->fit(4, unit, ELEMENTS_4, basis, COEFFICIENTS_4, work, WORK_4, record, RECORD_4) == 4
+        && fits(p, 4, identity, basis, record) && sbox_joins(p, 4, 1, record, identity);
+}
+
+static const struct {
+    uint8_t key, block, sealed[8];
+} vectors[4] = {
+    {0x00, 0x00, {0x55, 0x79, 0xc1, 0x38, 0x7b, 0x22, 0x84, 0x45}},
+    {0xff, 0x00, {0xe7, 0x2c, 0x46, 0xc0, 0xf5, 0x94, 0x50, 0x49}},
+    {0x00, 0xff, {0xa1, 0x12, 0xff, 0xc7, 0x2f, 0x68, 0x41, 0x7b}},
+    {0xff, 0xff, {0x33, 0x33, 0xdc, 0xd3, 0x21, 0x32, 0x10, 0xd2}},
+};
+
+static int present_vectors(const struct plain *p)
+{
+    for (size_t v = 0; v < 4; v++) {
+        uint8_t key[10], block[8], out[8];
+        memset(key, vectors[v].key, 10);
+        memset(block, vectors[v].block, 8);
+        p->present(key, block, out);
+        if (memcmp(out, vectors[v].sealed, 8) != 0)
+            return 0;
+    }
+    return 1;
+}
+
+// The vectors again, masked: a key and a block in random shares.
+static int block_vectors(const struct plain *p, size_t s, const uint8_t *record)
+{
+    static uint8_t random[527 * SHARES * (SHARES - 1)];
+    size_t n = 527 * s * (s - 1);
+    for (size_t v = 0; v < 4; v++) {
+        uint8_t key[10 * SHARES], block[8 * SHARES], out[8 * SHARES];
+        fill_below(256, key, 10 * s);
+        fill_below(256, block, 8 * s);
+        fill_below(16, random, n);
+        for (size_t i = 0; i < 10; i++)
+            key[i] ^= join(key + i, s, 10) ^ vectors[v].key;
+        for (size_t i = 0; i < 8; i++)
+            block[i] ^= join(block + i, s, 8) ^ vectors[v].block;
+        if (p->block(record, RECORD_4, s, key, 10 * s, block, 8 * s, random, n, out, 8 * s) != 0)
+            return 0;
+        for (size_t i = 0; i < 8; i++)
+            if (join(out + i, s, 8) != vectors[v].sealed[i])
+                return 0;
+    }
+    return 1;
+}
+
+const char *check_plain(const struct plain *p)
+{
+    uint8_t record_4[RECORD_4], given_6[RECORD_6], record_6[RECORD_6], table_6[ELEMENTS_6];
+    fill_record_6(p, given_6, table_6);
+    if (!field_examples(p))
+        return "products of the field";
+    if (!product_example(p))
+        return "the worked masked product";
+    if (!zero_basis(p) || !fits(p, 4, present_sbox, house_basis, record_4) || !fits(p, 6, table_6, given_6 + 6, record_6))
+        return "Fit";
+    if (!present_vectors(p))
+        return "the vectors of PRESENT-80";
+    for (size_t s = 1; s <= SHARES; s++) {
+        if (!product_joins(p, 4, s) || !product_joins(p, 6, s))
+            return "the joined masked product";
+        if (!sbox_joins(p, 4, s, record_4, present_sbox) || !sbox_joins(p, 6, s, record_6, table_6))
+            return "the joined masked S-box";
+        if (!block_vectors(p, s, record_4))
+            return "the vectors of masked PRESENT-80";
+    }
+    return NULL;
+}

@@ -1,0 +1,443 @@
+// The library's operations in plain C: the same tests, the same steps in the same order, and no recorder.
+// Loops run over the shares; the width is known to the compiler inside each of them. Secrets decide no branch and no index.
+// The file is compiled once for each compiler and level of optimisation; PLAIN is the name of what it then defines, NAME says which.
+#include "plain.h"
+#include <string.h>
+
+#define INLINE static inline __attribute__((always_inline))
+
+typedef uint8_t element;
+
+// ---- the field of 2^n elements, n = 4 or 6, reduced by y^n + y + 1
+
+// The product by double and add, the lowest bit of b first.
+INLINE element mul(unsigned n, element a, element b)
+{
+    element sum = 0;
+    for (unsigned k = 0; k < n; k++) {
+        sum ^= a * (b >> k & 1);
+        a = (element)(a << 1 & ((1 << n) - 1)) ^ (a >> (n - 1)) * 3;
+    }
+    return sum;
+}
+
+// The inverse of an element but 0: a^2 a^4 a^8 ..
+INLINE element inverse(unsigned n, element a)
+{
+    element power = mul(n, a, a), product = power;
+    for (unsigned k = 2; k < n; k++) {
+        power = mul(n, power, power);
+        product = mul(n, product, power);
+    }
+    return product;
+}
+
+// ---- tests
+
+static int all_below(unsigned bound, const uint8_t *bytes, size_t len)
+{
+    for (size_t i = 0; i < len; i++)
+        if (bytes[i] >= bound)
+            return 0;
+    return 1;
+}
+
+// The width of a record, or the refusal.
+static refusal read_record(const uint8_t *record, size_t len, unsigned *width)
+{
+    if (len < 6)
+        return 2;
+    if (memcmp(record, "DCP\0\1", 5) != 0)
+        return 5;
+    *width = record[5];
+    if (*width != 4 && *width != 6)
+        return 1;
+    if (len != (*width == 4 ? RECORD_4 : RECORD_6))
+        return 2;
+    return all_below(1u << *width, record + 6, len - 6) ? 0 : 3;
+}
+
+// ---- the masked product
+
+// c becomes the product of a and b, of s shares. Returns the random elements that are left.
+INLINE const element *multiply(unsigned n, size_t s, const element *restrict a, const element *restrict b, const element *restrict random,
+    element *restrict c)
+{
+    for (size_t i = 0; i < s; i++)
+        c[i] = mul(n, a[i], b[i]);
+    for (size_t i = 0; i < s; i++)
+        for (size_t j = i + 1; j < s; j++) {
+            element r = *random++;
+            element sum = r ^ mul(n, a[i], b[j]);
+            c[i] ^= r;
+            c[j] ^= sum ^ mul(n, a[j], b[i]);
+        }
+    return random;
+}
+
+static refusal plain_product(unsigned width, size_t s, const uint8_t *a, size_t a_len, const uint8_t *b, size_t b_len,
+    const uint8_t *random, size_t random_len, uint8_t *out, size_t out_len)
+{
+    if (width != 4 && width != 6)
+        return 1;
+    if (s < 1 || s > SHARES)
+        return 7;
+    if (a_len != SHARES || b_len != SHARES || random_len != s * (s - 1) / 2 || out_len != SHARES)
+        return 2;
+    element c[SHARES] = {0};
+    if (width == 4)
+        multiply(4, s, a, b, random, c);
+    else
+        multiply(6, s, a, b, random, c);
+    memcpy(out, c, SHARES);
+    return 0;
+}
+
+// ---- the masked S-box
+
+// The squares of row e of the powers, up the list to row `last`.
+INLINE void squares(unsigned n, size_t s, element powers[][SHARES], unsigned e, unsigned last)
+{
+    for (; e < last; e++)
+        for (size_t i = 0; i < s; i++)
+            powers[e + 1][i] = mul(n, powers[e][i], powers[e][i]);
+}
+
+// The S-box at width n of the sharing x. Returns the random elements that are left.
+INLINE const element *substitute(unsigned n, const uint8_t *restrict record, size_t s, const element *restrict x, const element *restrict random,
+    element *restrict out)
+{
+    enum { POLYNOMIALS = 2 * TERMS_6 - 1 };
+    const unsigned coefficients = n == 4 ? COEFFICIENTS_4 : COEFFICIENTS_6, products = (n == 4 ? TERMS_4 : TERMS_6) - 1;
+    element powers[COEFFICIENTS_6][SHARES], values[POLYNOMIALS][SHARES], product[TERMS_6 - 1][SHARES];
+
+    memcpy(powers[1], x, s);
+    squares(n, s, powers, 1, n);
+    random = multiply(n, s, powers[1], powers[2], random, powers[n + 1]);
+    squares(n, s, powers, n + 1, 2 * n);
+    if (n == 6) {
+        random = multiply(n, s, powers[7], powers[4], random, powers[13]);
+        squares(n, s, powers, 13, 18);
+    }
+    const uint8_t *polynomial = record + 6;
+    for (unsigned k = 0; k < 2 * products + 1; k++, polynomial += coefficients)
+        for (size_t i = 0; i < s; i++) {
+            element sum = i == 0 ? polynomial[0] : 0;
+            for (unsigned e = 1; e < coefficients; e++)
+                sum ^= mul(n, polynomial[e], powers[e][i]);
+            values[k][i] = sum;
+        }
+    for (unsigned k = 0; k < products; k++)
+        random = multiply(n, s, values[products + k], values[k], random, product[k]);
+    for (size_t i = 0; i < s; i++) {
+        element sum = product[0][i];
+        for (unsigned k = 1; k < products; k++)
+            sum ^= product[k][i];
+        out[i] = sum ^ values[2 * products][i];
+    }
+    return random;
+}
+
+static const element *substitute_4(const uint8_t *record, size_t s, const element *x, const element *random, element *out)
+{
+    return substitute(4, record, s, x, random, out);
+}
+
+static const element *substitute_6(const uint8_t *record, size_t s, const element *x, const element *random, element *out)
+{
+    return substitute(6, record, s, x, random, out);
+}
+
+static refusal plain_sbox(const uint8_t *record, size_t record_len, size_t s, const uint8_t *shares, size_t shares_len,
+    const uint8_t *random, size_t random_len, uint8_t *out, size_t out_len)
+{
+    unsigned width;
+    refusal r = read_record(record, record_len, &width);
+    if (r != 0)
+        return r;
+    if (s < 1 || s > SHARES)
+        return 7;
+    if (shares_len != s || random_len != (width == 4 ? 2 : 5) * (s * (s - 1) / 2) || out_len != s)
+        return 2;
+    if (!all_below(1u << width, shares, s) || !all_below(1u << width, random, random_len))
+        return 3;
+    if (width == 4)
+        substitute_4(record, s, shares, random, out);
+    else
+        substitute_6(record, s, shares, random, out);
+    return 0;
+}
+
+// ---- PRESENT-80
+
+static const uint8_t present_table[ELEMENTS_4] = {12, 5, 6, 11, 9, 0, 10, 13, 3, 14, 15, 8, 4, 7, 1, 2};
+
+// A key: its upper 64 bits, and the lower 16.
+typedef struct {
+    uint64_t high;
+    uint16_t low;
+} key_register;
+
+static uint64_t load(const uint8_t *bytes)
+{
+    uint64_t x = 0;
+    for (int i = 0; i < 8; i++)
+        x = x << 8 | bytes[i];
+    return x;
+}
+
+static void store(uint8_t *bytes, uint64_t x)
+{
+    for (int i = 7; i >= 0; i--, x >>= 8)
+        bytes[i] = (uint8_t)x;
+}
+
+static key_register load_key(const uint8_t *bytes)
+{
+    return (key_register){load(bytes), (uint16_t)(bytes[8] << 8 | bytes[9])};
+}
+
+// Bit k of each nibble, as 16 bits.
+INLINE uint64_t gather(uint64_t x, unsigned k)
+{
+    x = x >> k & 0x1111111111111111;
+    x = (x | x >> 3) & 0x0303030303030303;
+    x = (x | x >> 6) & 0x000f000f000f000f;
+    x = (x | x >> 12) & 0x000000ff000000ff;
+    return (x | x >> 24) & 0xffff;
+}
+
+// Bit i goes to 16i mod 63, bit 63 stays: bit k of nibble m goes to bit m of word k.
+INLINE uint64_t permute(uint64_t x)
+{
+    return gather(x, 0) | gather(x, 1) << 16 | gather(x, 2) << 32 | gather(x, 3) << 48;
+}
+
+// 80 bits rotated left by 61, which is right by 19.
+INLINE key_register rotate(key_register k)
+{
+    return (key_register){k.high >> 19 | (uint64_t)k.low << 45 | k.high << 61, (uint16_t)(k.high >> 3)};
+}
+
+// The round number is added to bits 19 to 15.
+INLINE key_register add_round_number(key_register k, unsigned round)
+{
+    return (key_register){k.high ^ round >> 1, (uint16_t)(k.low ^ round << 15)};
+}
+
+// Bits 4m to 4m + 3 of x replaced by v.
+INLINE uint64_t with_nibble(uint64_t x, unsigned m, element v)
+{
+    return (x & ~((uint64_t)15 << 4 * m)) | (uint64_t)v << 4 * m;
+}
+
+static void plain_present(const uint8_t key[10], const uint8_t block[8], uint8_t out[8])
+{
+    key_register k = load_key(key);
+    uint64_t x = load(block);
+    for (unsigned round = 1; round <= 31; round++) {
+        x ^= k.high;
+        uint64_t y = 0;
+        for (unsigned m = 0; m < 64; m += 4)
+            y |= (uint64_t)present_table[x >> m & 15] << m;
+        x = permute(y);
+        k = rotate(k);
+        k.high = with_nibble(k.high, 15, present_table[k.high >> 60]);
+        k = add_round_number(k, round);
+    }
+    store(out, x ^ k.high);
+}
+
+// The form of a record of width 4 at an input: q1 p1 + p2.
+static element form_at(const uint8_t *record, element x)
+{
+    static const unsigned exponents[COEFFICIENTS_4] = {0, 1, 2, 4, 8, 3, 6, 12, 9};
+    element value[3] = {0, 0, 0};
+    for (unsigned e = 0; e < COEFFICIENTS_4; e++) {
+        element power = 1;
+        for (unsigned k = 0; k < exponents[e]; k++)
+            power = mul(4, power, x);
+        for (unsigned p = 0; p < 3; p++)
+            value[p] ^= mul(4, record[6 + p * COEFFICIENTS_4 + e], power);
+    }
+    return mul(4, value[0], value[1]) ^ value[2];
+}
+
+static int is_present(const uint8_t *record)
+{
+    for (unsigned x = 0; x < ELEMENTS_4; x++)
+        if (form_at(record, (element)x) != present_table[x])
+            return 0;
+    return 1;
+}
+
+static refusal plain_block(const uint8_t *record, size_t record_len, size_t s, const uint8_t *key, size_t key_len,
+    const uint8_t *block, size_t block_len, const uint8_t *random, size_t random_len, uint8_t *out, size_t out_len)
+{
+    unsigned width;
+    refusal r = read_record(record, record_len, &width);
+    if (r != 0)
+        return r;
+    if (width != 4)
+        return 1;
+    if (!is_present(record))
+        return 6;
+    if (s < 1 || s > SHARES)
+        return 7;
+    if (key_len != 10 * s || block_len != 8 * s || random_len != 527 * s * (s - 1) || out_len != 8 * s)
+        return 2;
+    if (!all_below(16, random, random_len))
+        return 3;
+
+    uint64_t state[SHARES];
+    key_register keys[SHARES];
+    element x[SHARES], y[SHARES];
+    for (size_t i = 0; i < s; i++) {
+        state[i] = load(block + 8 * i);
+        keys[i] = load_key(key + 10 * i);
+    }
+    for (unsigned round = 1; round <= 31; round++) {
+        for (size_t i = 0; i < s; i++)
+            state[i] ^= keys[i].high;
+        for (unsigned m = 0; m < 16; m++) {
+            for (size_t i = 0; i < s; i++)
+                x[i] = state[i] >> 4 * m & 15;
+            random = substitute_4(record, s, x, random, y);
+            for (size_t i = 0; i < s; i++)
+                state[i] = with_nibble(state[i], m, y[i]);
+        }
+        for (size_t i = 0; i < s; i++)
+            state[i] = permute(state[i]);
+        for (size_t i = 0; i < s; i++) {
+            keys[i] = rotate(keys[i]);
+            x[i] = (element)(keys[i].high >> 60);
+        }
+        random = substitute_4(record, s, x, random, y);
+        for (size_t i = 0; i < s; i++)
+            keys[i].high = with_nibble(keys[i].high, 15, y[i]);
+        keys[0] = add_round_number(keys[0], round);
+    }
+    for (size_t i = 0; i < s; i++)
+        store(out + 8 * i, state[i] ^ keys[i].high);
+    return 0;
+}
+
+// ---- Fit
+
+// The powers of x in the order of the exponent list: 1; x, x^2, x^4 ..; x^3 and its squares; at width 6 x^11 and its squares.
+INLINE void powers_of(unsigned n, element x, element *power)
+{
+    power[0] = 1;
+    power[1] = x;
+    for (unsigned e = 2; e < (n == 4 ? COEFFICIENTS_4 : COEFFICIENTS_6); e++)
+        if (e == n + 1)
+            power[e] = mul(n, power[1], power[2]);
+        else if (e == 2 * n + 1)
+            power[e] = mul(n, power[n + 1], power[4]);
+        else
+            power[e] = mul(n, power[e - 1], power[e - 1]);
+}
+
+// The equation at an input, from its powers: for each term the powers times what the polynomial sought is multiplied with; last, the table's entry.
+INLINE void equation(unsigned n, const uint8_t *basis, const element *power, element entry, element *row)
+{
+    const unsigned coefficients = n == 4 ? COEFFICIENTS_4 : COEFFICIENTS_6, terms = n == 4 ? TERMS_4 : TERMS_6;
+    for (unsigned t = 0; t < terms; t++, row += coefficients) {
+        element factor = 1;
+        if (t + 1 < terms) {
+            factor = 0;
+            for (unsigned e = 0; e < coefficients; e++)
+                factor ^= mul(n, basis[t * coefficients + e], power[e]);
+        }
+        for (unsigned e = 0; e < coefficients; e++)
+            row[e] = mul(n, factor, power[e]);
+    }
+    *row = entry;
+}
+
+// Row a becomes row a plus f times row b.
+INLINE void add_multiple(unsigned n, element *restrict a, const element *restrict b, element f, size_t columns)
+{
+    for (size_t k = 0; k < columns; k++)
+        a[k] ^= mul(n, f, b[k]);
+}
+
+// Gauss-Jordan elimination. Returns the rank.
+INLINE size_t eliminate(unsigned n, element *matrix, size_t rows, size_t unknowns)
+{
+    const size_t columns = unknowns + 1;
+    size_t rank = 0;
+    for (size_t c = 0; c < unknowns; c++) {
+        size_t p = rank;
+        while (p < rows && matrix[p * columns + c] == 0)
+            p++;
+        if (p == rows)
+            continue;
+        element *pivot = matrix + rank * columns;
+        if (p != rank)
+            add_multiple(n, pivot, matrix + p * columns, 1, columns);
+        element f = inverse(n, pivot[c]);
+        for (size_t k = 0; k < columns; k++)
+            pivot[k] = mul(n, f, pivot[k]);
+        for (size_t i = 0; i < rows; i++)
+            if (i != rank)
+                add_multiple(n, matrix + i * columns, pivot, matrix[i * columns + c], columns);
+        rank++;
+    }
+    return rank;
+}
+
+// The solution with 0 at each free unknown, from the reduced matrix. Returns 0 if there is none.
+INLINE int read_solution(const element *matrix, size_t rows, size_t unknowns, size_t rank, element *solution)
+{
+    const size_t columns = unknowns + 1;
+    for (size_t i = rank; i < rows; i++)
+        if (matrix[i * columns + unknowns] != 0)
+            return 0;
+    memset(solution, 0, unknowns);
+    for (size_t i = 0; i < rank; i++) {
+        size_t k = 0;
+        while (matrix[i * columns + k] == 0)
+            k++;
+        solution[k] = matrix[i * columns + unknowns];
+    }
+    return 1;
+}
+
+INLINE refusal fit(unsigned n, const uint8_t *table, size_t table_len, const uint8_t *basis, size_t basis_len, uint8_t *work, size_t work_len,
+    uint8_t *record, size_t record_len)
+{
+    const size_t coefficients = n == 4 ? COEFFICIENTS_4 : COEFFICIENTS_6, terms = n == 4 ? TERMS_4 : TERMS_6;
+    const size_t rows = n == 4 ? ELEMENTS_4 : ELEMENTS_6, unknowns = terms * coefficients, columns = unknowns + 1;
+    if (table_len != rows || basis_len != unknowns - coefficients || work_len != rows * (columns + coefficients)
+        || record_len != 6 + basis_len + unknowns)
+        return 2;
+    if (!all_below(1u << n, table, table_len) || !all_below(1u << n, basis, basis_len))
+        return 3;
+    element *powers = work + rows * columns;
+    for (size_t x = 0; x < rows; x++)
+        powers_of(n, (element)x, powers + x * coefficients);
+    for (size_t x = 0; x < rows; x++)
+        equation(n, basis, powers + x * coefficients, table[x], work + x * columns);
+    size_t rank = eliminate(n, work, rows, unknowns);
+    int found = read_solution(work, rows, unknowns, rank, record + 6 + basis_len);
+    memset(work, 0, work_len);
+    if (!found)
+        return 4;
+    memcpy(record, "DCP\0\1", 5);
+    record[5] = (uint8_t)n;
+    memcpy(record + 6, basis, basis_len);
+    return 0;
+}
+
+static refusal plain_fit(unsigned width, const uint8_t *table, size_t table_len, const uint8_t *basis, size_t basis_len,
+    uint8_t *work, size_t work_len, uint8_t *record, size_t record_len)
+{
+    if (width == 4)
+        return fit(4, table, table_len, basis, basis_len, work, work_len, record, record_len);
+    if (width == 6)
+        return fit(6, table, table_len, basis, basis_len, work, work_len, record, record_len);
+    return 1;
+}
+
+const struct plain PLAIN = {NAME, plain_product, plain_sbox, plain_block, plain_fit, plain_present};

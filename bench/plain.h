@@ -1,0 +1,41 @@
+// The library's operations in plain C, to measure the library against: see plain.c.
+#ifndef PLAIN_H
+#define PLAIN_H
+#include <stddef.h>
+#include <stdint.h>
+
+// The most shares.
+enum { SHARES = 9 };
+
+// What goes with a width: coefficients of a polynomial, terms of the form, elements of the field, bytes of a record and of Fit's work.
+enum { COEFFICIENTS_4 = 9, TERMS_4 = 2, ELEMENTS_4 = 16, RECORD_4 = 33, WORK_4 = 448 };
+enum { COEFFICIENTS_6 = 19, TERMS_6 = 4, ELEMENTS_6 = 64, RECORD_6 = 139, WORK_6 = 6144 };
+
+// What an operation answers: 0, or the number of the refusal.
+typedef unsigned refusal;
+
+struct plain {
+    // the compiler and its level of optimisation
+    const char *name;
+
+    // The masked product of a and b. Sharings have nine bytes, 0 past the s shares in use; `random` has an element for each pair of shares.
+    refusal (*product)(unsigned width, size_t s, const uint8_t *a, size_t a_len, const uint8_t *b, size_t b_len,
+        const uint8_t *random, size_t random_len, uint8_t *out, size_t out_len);
+
+    // The masked S-box that a record describes.
+    refusal (*sbox)(const uint8_t *record, size_t record_len, size_t s, const uint8_t *shares, size_t shares_len,
+        const uint8_t *random, size_t random_len, uint8_t *out, size_t out_len);
+
+    // Masked PRESENT-80 of one block.
+    refusal (*block)(const uint8_t *record, size_t record_len, size_t s, const uint8_t *key, size_t key_len,
+        const uint8_t *block, size_t block_len, const uint8_t *random, size_t random_len, uint8_t *out, size_t out_len);
+
+    // The record of a table over a basis. `work` is all zero afterwards.
+    refusal (*fit)(unsigned width, const uint8_t *table, size_t table_len, const uint8_t *basis, size_t basis_len,
+        uint8_t *work, size_t work_len, uint8_t *record, size_t record_len);
+
+    // PRESENT-80 of one block, without masking.
+    void (*present)(const uint8_t key[10], const uint8_t block[8], uint8_t out[8]);
+};
+
+#endif

@@ -10,3 +10,7 @@ pub reported : {outcome report : Outcome} {new old left answer : List ℕ}
     → answer ≡ words report
     → Reported outcome new old left answer
 reported a e = record { answered = e ∙ ap words (a .answer); output = a .output }
+
+-- the same for an operation that is lent nothing to write
+pub said : {outcome report : Outcome} {answer : List ℕ} → report ≡ outcome → answer ≡ words report → answer ≡ words outcome
+said a e = e ∙ ap words a

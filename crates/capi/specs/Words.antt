@@ -15,3 +15,9 @@ words (refused number place) = number ∷ place ∷ 0 ∷ 0 ∷ []
 pub record Reported (outcome : Outcome) (new old left answer : List ℕ) : Type 0 where
   pub answered : answer ≡ words outcome
   pub output : left ≡ written outcome new old
+
+-- The contract of an exported operation whose outcome is given by what holds of it: the words are those of an outcome that satisfies P.
+pub record ReportedBy (P : Outcome → Type 0) (answer : List ℕ) : Type 0 where
+  pub outcome : Outcome
+  pub holds : P outcome
+  pub answered : answer ≡ words outcome

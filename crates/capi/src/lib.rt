@@ -3,7 +3,14 @@ ghost use mathlib.Core.Path.{_≡_};
 ghost use mathlib.Core.List.{[], _∷_};
 ghost use lib.ListN.{length};
 ghost use Rattle.steps.specs.Operations.{splitOutcome, splitShares, joinOutcome, joinShares};
-ghost use Rattle.capi.specs.Words.{Reported};
+ghost use Rattle.decomposition.specs.Record.{readOutcome};
+ghost use Rattle.decomposition.specs.Check.{checkOutcome};
+ghost use Rattle.decomposition.specs.Fit.{Fits, HouseFits};
+ghost use Rattle.capi.specs.Words.{words, Reported, ReportedBy};
+use decomposition::CheckAnswer;
+use decomposition::FitAnswer;
+use decomposition::HouseFitAnswer;
+use decomposition::ReadAnswer;
 use steps::joining::JoinAnswer;
 use steps::splitting::SplitAnswer;
 
@@ -12,6 +19,67 @@ fn put(answer: &mut [u64; 4], number: u64, first: u64, second: u64, third: u64)
     ensures { λ u. ⌜ now (answer .exit) ≡ number ∷ first ∷ second ∷ third ∷ [] ⌝ }
 {
     *answer = [number, first, second, third];
+}
+
+// Read hands back the width.
+#[no_mangle]
+pub extern "C" fn ll_read(record: &[u8], answer: &mut [u64; 4])
+    ensures { λ u. ⌜ now (answer .exit) ≡ words (readOutcome (now («record» .entry))) ⌝ }
+{
+    let a = decomposition::read(record);
+    match a {
+        ReadAnswer::Done { width } => put(answer, 0, width as u64, 0, 0),
+        ReadAnswer::Refused { number, place } => { put(answer, number as u64, place as u64, 0, 0) }
+    }
+}
+
+#[no_mangle]
+pub extern "C" fn ll_check(record: &[u8], table: &[u8], answer: &mut [u64; 4])
+    ensures { λ u. ⌜ now (answer .exit) ≡ words (checkOutcome (now («record» .entry)) (now (table .entry))) ⌝ }
+{
+    let a = decomposition::check(record, table);
+    match a {
+        CheckAnswer::Done => put(answer, 0, 0, 0, 0),
+        CheckAnswer::Refused { number, place } => { put(answer, number as u64, place as u64, 0, 0) }
+    }
+}
+
+#[no_mangle]
+pub extern "C" fn ll_fit(
+    width: u32,
+    table: &[u8],
+    basis: &[u8],
+    work: &mut [u8],
+    record: &mut [u8],
+    answer: &mut [u64; 4],
+)
+    ensures { λ u. ⌜ ReportedBy (Fits width (now (table .entry)) (now (basis .entry)) (now (work .entry)) (now («record» .entry))
+        (now (work .exit)) (now («record» .exit))) (now (answer .exit)) ⌝ }
+{
+    let a = decomposition::fit(width, table, basis, work, record);
+    match a {
+        FitAnswer::Done => put(answer, 0, 0, 0, 0),
+        FitAnswer::Refused { number, place } => { put(answer, number as u64, place as u64, 0, 0) }
+    }
+}
+
+#[no_mangle]
+pub extern "C" fn ll_house_fit(
+    table: &[u8],
+    work: &mut [u8],
+    record: &mut [u8],
+    answer: &mut [u64; 4],
+)
+    ensures { λ u. ⌜ ReportedBy (HouseFits (now (table .entry)) (now (work .entry)) (now («record» .entry))
+        (now (work .exit)) (now («record» .exit))) (now (answer .exit)) ⌝ }
+{
+    let a = decomposition::house_fit(table, work, record);
+    match a {
+        HouseFitAnswer::Done => put(answer, 0, 0, 0, 0),
+        HouseFitAnswer::Refused { number, place } => {
+            put(answer, number as u64, place as u64, 0, 0)
+        }
+    }
 }
 
 #[no_mangle]

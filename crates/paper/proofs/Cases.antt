@@ -3,6 +3,7 @@ use mathlib.Core.Path.{_≡_, refl}
 use mathlib.Core.List.{List, map, flatten}
 use Prim.Native.Nat.{ℕ}
 use Rattle.field.specs.Polynomial.{classes, exponents, combination, value}
+use Rattle.decomposition.specs.Fit.{houseBasis}
 use Rattle.field.proofs.Inverses.{products}
 use Rattle.xor.specs.Sum.{join}
 use Rattle.steps.specs.Program.{_>>=_, _>>_, note, random, loop, for, first, later, result}
@@ -11,7 +12,7 @@ use Rattle.steps.specs.Operations.{column, maskedByte, splitShares}
 use Rattle.product.specs.Product.{start, pair, row, product}
 use Rattle.present.specs.Present.{turns, iterate, nibble, replace, onNibble, substitute, place, rotate, onTopNibbles, roundNumber, updateKey}
 use Rattle.present.specs.Present as present
-use Rattle.paper.specs.Cases.{Case, houseBasis, table}
+use Rattle.paper.specs.Cases.{Case, table}
 
 pub cases : map (λ (c : Case). c .given) table ≡ map (λ (c : Case). c .said) table
 unfolding table houseBasis products classes flatten exponents combination value join

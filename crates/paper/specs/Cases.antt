@@ -4,6 +4,7 @@ use Prim.Native.Nat.{ℕ}
 use Rattle.xor.specs.Sum.{join}
 use Rattle.field.specs.Mul.{mul}
 use Rattle.field.specs.Polynomial.{value}
+use Rattle.decomposition.specs.Fit.{houseBasis}
 use Rattle.steps.specs.Program.{result}
 use Rattle.steps.specs.Operations.{splitShares}
 use Rattle.product.specs.Product.{product}
@@ -16,10 +17,6 @@ pub record Case : Type 0 where
 
 abbrev pub row : List ℕ → List ℕ → Case
 row g s = record { given = g; said = s }
-
--- the house basis of width 4, q1 = x + x ^ 2 + x ^ 12: a coefficient for each of the exponents 0, 1, 2, 4, 8, 3, 6, 12, 9
-unfoldable pub houseBasis : List ℕ
-houseBasis = 0 ∷ 1 ∷ 1 ∷ 0 ∷ 0 ∷ 0 ∷ 0 ∷ 1 ∷ 0 ∷ []
 
 -- three shares of two factors, and three random elements
 abbrev pub maskedProduct : List ℕ

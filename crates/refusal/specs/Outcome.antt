@@ -17,6 +17,11 @@ abbrev pub test : Bool → ℕ → ℕ → Outcome → Outcome
 test true number place next = next
 test false number place next = refused number place
 
+-- one operation's refusals, then what comes next
+abbrev pub andThen : Outcome → Outcome → Outcome
+andThen (done values) next = next
+andThen (refused number place) next = refused number place
+
 -- what a slice lent for output holds in the end: what the operation writes or, where it is refused, what it held before
 abbrev pub written : Outcome → List ℕ → List ℕ → List ℕ
 written (done numbers) new old = new

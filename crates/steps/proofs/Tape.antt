@@ -1,7 +1,7 @@
 -- The laws of the tape.
 use mathlib.Core.Path.{_≡_}
 use mathlib.Core.List.{List}
-use Prim.Native.Nat.{ℕ, _≤_}
+use Prim.Native.Nat.{ℕ, _+_, _≤_}
 use native.Mathlib.Omega.{arith}
 use lib.ListN.{length}
 use Rattle.steps.specs.Tape.{elements, bytesFor}
@@ -10,3 +10,13 @@ use Rattle.steps.specs.Tape.{elements, bytesFor}
 pub elements-enough : (width : ℕ) (bytes : List ℕ) (count : ℕ) → length bytes ≡ bytesFor width count → count ≤ length (elements width bytes)
 unfolding elements bytesFor
 elements-enough width bytes count e = omega arith
+
+-- and at most one more
+pub elements-few : (width : ℕ) (bytes : List ℕ) (count : ℕ) → length bytes ≡ bytesFor width count → length (elements width bytes) ≤ count + 1
+unfolding elements bytesFor
+elements-few width bytes count e = omega arith
+
+-- how many elements bytes hold goes by their number alone
+pub elements-length : (width : ℕ) (bytes others : List ℕ) → length bytes ≡ length others → length (elements width bytes) ≡ length (elements width others)
+unfolding elements
+elements-length width bytes others e = e

@@ -1,0 +1,46 @@
+-- `capi::ll_check` meets its contract: the words are those of the answer.
+use Rattle.capi.specs.Words.{words}
+use borrow.Author.Needs.{needs}
+use Rattle.capi.specs.Words.{words}
+use Rattle.capi.proofs.Words.{said}
+use Rattle.capi.proofs.ll_check.Statement.{statement}
+use Rattle.capi.proofs.ll_check.Tie as tie
+
+check-requires : tie.Need-check-requires
+check-requires c κs = search needs
+
+enum-told : tie.Need-enum-told
+enum-told c = search needs
+
+put-requires : tie.Need-put-requires
+put-requires c κs = search needs
+
+enum-known-a : tie.Need-enum-known-a
+enum-known-a c = search needs
+
+cast-put : tie.Need-cast-put
+cast-put c = search needs
+
+put-requires-2 : tie.Need-put-requires-2
+put-requires-2 c κs = search needs
+
+returns : tie.Need-returns
+unfolding words
+returns c = said (c .before .before .before .before .check .ensures) (rw (c .before .before .enum-told .given .1) (c .put .ensures))
+
+returns-2 : tie.Need-returns-2
+unfolding words
+returns-2 c = said (c .before .before .before .before .before .check .ensures) (rw (c .before .before .before .a .given .1) (c .put2 .ensures))
+
+pub ll-check-spec : {M : Type 1} → statement M
+ll-check-spec =
+    tie.close
+    (tie.spec
+    check-requires
+    enum-told
+    put-requires
+    enum-known-a
+    cast-put
+    put-requires-2
+    returns
+    returns-2)

@@ -1,0 +1,65 @@
+-- `capi::ll_house_fit` meets its contract: the words are those of the answer.
+use borrow.Author.Needs.{needs}
+use Rattle.decomposition.specs.Fit.{houseFitReported}
+use Rattle.capi.specs.Words.{words}
+use Rattle.capi.proofs.ll_house_fit.Statement.{statement}
+use Rattle.capi.proofs.ll_house_fit.Tie as tie
+
+house-fit-requires : tie.Need-house-fit-requires
+house-fit-requires c κs = search needs
+
+enum-told : tie.Need-enum-told
+enum-told c = search needs
+
+put-requires : tie.Need-put-requires
+put-requires c κs = search needs
+
+enum-known-a : tie.Need-enum-known-a
+enum-known-a c = search needs
+
+cast-put : tie.Need-cast-put
+cast-put c = search needs
+
+put-requires-2 : tie.Need-put-requires-2
+put-requires-2 c κs = search needs
+
+same-length : tie.Need-same-length
+same-length c = search needs
+
+same-length-2 : tie.Need-same-length-2
+same-length-2 c = search needs
+
+returns : tie.Need-returns
+unfolding words
+returns c =
+    let call = c .before .before .before .before .before .before .before .before .house-fit in
+    record { outcome = houseFitReported (call .result); holds = call .ensures; answered = rw (c .before .before .enum-told .given .1) (c .put .ensures) }
+
+same-length-3 : tie.Need-same-length-3
+same-length-3 c = search needs
+
+same-length-4 : tie.Need-same-length-4
+same-length-4 c = search needs
+
+returns-2 : tie.Need-returns-2
+unfolding words
+returns-2 c =
+    let call = c .before .before .before .before .before .before .before .before .before .house-fit in
+    record { outcome = houseFitReported (call .result); holds = call .ensures; answered = rw (c .before .before .before .a .given .1) (c .put2 .ensures) }
+
+pub ll-house-fit-spec : {M : Type 1} → statement M
+ll-house-fit-spec =
+    tie.close
+    (tie.spec
+    house-fit-requires
+    enum-told
+    put-requires
+    enum-known-a
+    cast-put
+    put-requires-2
+    same-length
+    same-length-2
+    returns
+    same-length-3
+    same-length-4
+    returns-2)

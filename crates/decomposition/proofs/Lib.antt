@@ -1,0 +1,14 @@
+pub mod Sizes
+pub mod Value
+pub mod Columns
+pub mod Decomposition
+pub mod Tests
+pub mod Record
+pub mod Work
+pub mod Differences
+pub mod Ready
+pub mod Solved
+pub mod Reading
+pub mod Settled
+pub mod Accepted
+pub mod Theorems

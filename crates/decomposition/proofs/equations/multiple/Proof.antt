@@ -1,0 +1,80 @@
+-- `decomposition::equations::multiple` meets its contract. The invariant: the first j products are written.
+use mathlib.Core.Path.{_≡_, _∙_, ap, refl}
+use Prim.Native.Nat.{_+_, _-_, _≤_}
+use native.Mathlib.Omega.{arith}
+use lib.ListN.{length, length-set}
+use Rattle.field.specs.Mul.{mul}
+use Rattle.linear.specs.Buffer.{Filled, from}
+use Rattle.linear.specs.Row.{times}
+use Rattle.linear.specs.Scalars.{scalars}
+use Rattle.linear.proofs.Buffer.{filled-more, filled-none}
+use Rattle.decomposition.proofs.equations.multiple.Statement.{statement}
+use Rattle.decomposition.proofs.equations.multiple.Tie as tie
+
+abbrev Inv-loop : tie.InvT-loop
+Inv-loop width count work₀ a p f j₀ work j =
+    (j ≤ count) × (length work ≡ length work₀) × Filled work₀ work a j (times (scalars width) f (from work₀ p))
+
+abbrev μ-loop : tie.MeasureT-loop
+μ-loop width count work₀ a p f j₀ work j = count - j
+
+loop-holds : tie.Need-loop-holds Inv-loop μ-loop
+loop-holds c = (omega arith, refl, filled-none (c .before .args .work .now) (c .before .args .a) _)
+
+add-y : tie.Need-add-y Inv-loop μ-loop
+add-y c = omega arith
+
+slice-read-y : tie.Need-slice-read-y Inv-loop μ-loop
+slice-read-y c = omega arith
+
+mul-requires : tie.Need-mul-requires Inv-loop μ-loop
+mul-requires c κs = c .before .before .before .before .pre .0
+
+add-work : tie.Need-add-work Inv-loop μ-loop
+add-work c = omega arith
+
+slice-write-work : tie.Need-slice-write-work Inv-loop μ-loop
+slice-write-work c = omega arith
+
+add-j : tie.Need-add-j Inv-loop μ-loop
+add-j c = omega arith
+
+loop-less : tie.Need-loop-less Inv-loop μ-loop
+loop-less c = omega arith
+
+loop-again : tie.Need-loop-again Inv-loop μ-loop
+loop-again c =
+    let at-loop = c .before .before .before in
+    let s = at-loop .before .before in
+    let j = at-loop .loop .j in
+    let u = at-loop .loop .inv .2 in (
+      omega arith,
+      length-set (at-loop .loop .work) (s .args .a + j) _ ∙ at-loop .loop .inv .1,
+      filled-more u (omega arith) _ (c .mul .ensures ∙ ap (mul (s .args .width) (s .args .f)) (u .high (s .args .p + j) (omega arith))),
+    )
+
+same-length : tie.Need-same-length Inv-loop μ-loop
+same-length c = c .before .loop .inv .1
+
+returns : tie.Need-returns Inv-loop μ-loop
+returns c =
+    let e : c .before .loop .j ≡ c .before .before .before .args .count = omega arith in
+    rw e at (c .before .loop .inv .2)
+
+pub multiple-spec : {M : Type 1} → statement M
+multiple-spec =
+    tie.close
+    (tie.spec
+    Inv-loop
+    μ-loop
+    loop-holds
+    add-y
+    slice-read-y
+    mul-requires
+    add-work
+    slice-write-work
+    add-j
+    loop-less
+    loop-again
+    same-length
+    returns)

@@ -1,0 +1,76 @@
+-- `decomposition::polynomial::power_row` meets its contract. The invariant: the first j powers are written.
+use mathlib.Core.Path.{_≡_, _∙_, ap, refl}
+use Prim.Native.Nat.{_+_, _-_, _≤_}
+use native.Mathlib.Omega.{arith}
+use lib.ListN.{length, length-set}
+use Rattle.field.specs.Power.{pow}
+use Rattle.linear.specs.Buffer.{Filled}
+use Rattle.linear.proofs.Buffer.{filled-more, filled-none}
+use Rattle.decomposition.specs.Form.{monomial}
+use Rattle.decomposition.proofs.polynomial.power_row.Statement.{statement}
+use Rattle.decomposition.proofs.polynomial.power_row.Tie as tie
+
+abbrev Inv-loop : tie.InvT-loop
+Inv-loop width count out₀ a x j₀ out j = (j ≤ count) × (length out ≡ length out₀) × Filled out₀ out a j (monomial width x)
+
+abbrev μ-loop : tie.MeasureT-loop
+μ-loop width count out₀ a x j₀ out j = count - j
+
+loop-holds : tie.Need-loop-holds Inv-loop μ-loop
+loop-holds c = (omega arith, refl, filled-none (c .before .args .out .now) (c .before .args .a) _)
+
+exponent-requires : tie.Need-exponent-requires Inv-loop μ-loop
+exponent-requires c κs =
+    let s = c .before .before .before in
+    (s .pre .0, omega arith)
+
+pow-requires : tie.Need-pow-requires Inv-loop μ-loop
+pow-requires c κs = c .before .before .before .before .pre .0
+
+add-out : tie.Need-add-out Inv-loop μ-loop
+add-out c = omega arith
+
+slice-write-out : tie.Need-slice-write-out Inv-loop μ-loop
+slice-write-out c = omega arith
+
+add-j : tie.Need-add-j Inv-loop μ-loop
+add-j c = omega arith
+
+loop-less : tie.Need-loop-less Inv-loop μ-loop
+loop-less c = omega arith
+
+loop-again : tie.Need-loop-again Inv-loop μ-loop
+unfolding monomial
+loop-again c =
+    let at-loop = c .before .before .before in
+    let s = at-loop .before .before in
+    let j = at-loop .loop .j in (
+      omega arith,
+      length-set (at-loop .loop .out) (s .args .a + j) _ ∙ at-loop .loop .inv .1,
+      filled-more (at-loop .loop .inv .2) (omega arith) _ (c .pow .ensures ∙ ap (pow (s .args .width) (s .args .x)) (c .before .exponent .ensures)),
+    )
+
+same-length : tie.Need-same-length Inv-loop μ-loop
+same-length c = c .before .loop .inv .1
+
+returns : tie.Need-returns Inv-loop μ-loop
+returns c =
+    let e : c .before .loop .j ≡ c .before .before .before .args .count = omega arith in
+    rw e at (c .before .loop .inv .2)
+
+pub power-row-spec : {M : Type 1} → statement M
+power-row-spec =
+    tie.close
+    (tie.spec
+    Inv-loop
+    μ-loop
+    loop-holds
+    exponent-requires
+    pow-requires
+    add-out
+    slice-write-out
+    add-j
+    loop-less
+    loop-again
+    same-length
+    returns)

@@ -1,0 +1,45 @@
+-- The operation Check.
+use mathlib.Core.Bool.{cond}
+use mathlib.Core.List.{List, [], _∷_}
+use Prim.Native.Nat.{ℕ, suc}
+use lib.Dec.{leb, eqb}
+use lib.ListN.{length, getD}
+use Rattle.refusal.specs.Outcome.{Outcome, done, refused, test, andThen}
+use Rattle.field.specs.Mul.{mul}
+use Rattle.decomposition.specs.Form.{form, total, valueOf}
+use Rattle.decomposition.specs.Layout.{layout}
+use Rattle.decomposition.specs.Record.{basisOf, solutionOf, readOutcome}
+use Rattle.refusal.specs.Large.{testBelow}
+use Rattle.decomposition.specs.declared.CheckAnswer.{CheckAnswer}
+use Rattle.decomposition.specs.declared.CheckAnswer.the-variants.{Done, Refused}
+use Rattle.decomposition.specs.declared.Layout.{Layout}
+
+-- the form of a record at x
+abbrev pub recordForm : Layout → List ℕ → ℕ → ℕ
+recordForm L r = form L (basisOf L r) (solutionOf L r)
+
+-- the sum of its first k products p1·q1, ..
+abbrev pub recordProducts : Layout → List ℕ → ℕ → ℕ → ℕ
+recordProducts L r x k = total k (λ i. mul (L .width) (valueOf L (solutionOf L r) i x) (valueOf L (basisOf L r) i x))
+
+-- the first input at which f and the table differ; the table's length if there is none
+unfoldable pub firstDifference : (ℕ → ℕ) → List ℕ → ℕ
+firstDifference f [] = 0
+firstDifference f (y ∷ l) = cond (eqb (f 0) y) (suc (firstDifference (λ x. f (suc x)) l)) 0
+
+-- the tests of the table
+abbrev pub checkAt : Layout → List ℕ → List ℕ → Outcome
+checkAt L r table =
+    test (eqb (length table) (L .inputs)) 2 0
+    (testBelow (L .inputs) 0 table
+    (test (leb (length table) (firstDifference (recordForm L r) table)) 6 (firstDifference (recordForm L r) table)
+    (done [])))
+
+-- what Check answers
+unfoldable pub checkOutcome : List ℕ → List ℕ → Outcome
+checkOutcome r table = andThen (readOutcome r) (checkAt (layout (getD r 5 0)) r table)
+
+-- the outcome that each case of the answer stands for
+abbrev pub checkReported : CheckAnswer → Outcome
+checkReported Done = done []
+checkReported (Refused number place) = refused number place

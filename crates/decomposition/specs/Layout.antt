@@ -1,0 +1,59 @@
+-- How the record of a decomposition and the work of Fit lie in bytes.
+use mathlib.Core.Bool.{Bool, cond, _||_, true}
+use mathlib.Core.Path.{_≡_}
+use Prim.Native.Nat.{ℕ, _+_, _-_, _*_, _^_, _<_}
+use lib.Dec.{eqb}
+use lib.ListN.{length}
+use Rattle.field.specs.Mul.{Width}
+use Rattle.field.specs.Polynomial.{exponents}
+use Rattle.decomposition.specs.declared.Layout.{Layout}
+
+-- the widths for which there are decompositions
+abbrev pub known : ℕ → Bool
+known n = eqb n 4 || eqb n 6
+
+abbrev pub Known : ℕ → Type 0
+Known n = known n ≡ true
+
+-- t, the number of terms of the form p1·q1 + .. + p(t-1)·q(t-1) + pt
+unfoldable pub termsOf : ℕ → ℕ
+termsOf n = cond (eqb n 4) 2 4
+
+-- the layout for width n, e listed exponents and t terms
+unfoldable pub sized : ℕ → ℕ → ℕ → Layout
+sized n e t = record {
+  width = n;
+  inputs = 2 ^ n;
+  exponents = e;
+  terms = t;
+  -- the unknowns are the coefficients of p1 to pt; the basis is q1 to q(t-1)
+  unknowns = t * e;
+  basis = (t - 1) * e;
+  -- the record: mark, version and width in 6 bytes, the basis, then p1 to pt
+  start = 6 + (t - 1) * e;
+  size = 6 + (t - 1) * e + t * e;
+  -- the work: an equation for each input, then the powers of each input
+  powers = 2 ^ n * (t * e + 1);
+  work = 2 ^ n * (t * e + 1) + 2 ^ n * e;
+}
+
+-- the layout for width n
+unfoldable pub layout : ℕ → Layout
+layout n = sized n (length (exponents n)) (termsOf n)
+
+-- what the theory asks of a layout: its parts fit together, and are small enough for bytes and indices
+pub record Sizes (L : Layout) : Type 0 where
+  pub width : Width (L .width)
+  pub inputs : L .inputs ≡ 2 ^ L .width
+  pub listed : length (exponents (L .width)) ≡ L .exponents
+  pub unknowns : L .unknowns ≡ L .terms * L .exponents
+  pub basis : L .basis + L .exponents ≡ L .unknowns
+  pub solution : L .start ≡ 6 + L .basis
+  pub whole : L .size ≡ L .start + L .unknowns
+  pub powers : L .powers ≡ L .inputs * (L .unknowns + 1)
+  pub work : L .work ≡ L .powers + L .inputs * L .exponents
+  pub byte : L .inputs < 256
+  pub some-exponents : 0 < L .exponents
+  pub few-exponents : L .exponents < 32
+  pub some-terms : 0 < L .terms
+  pub few-terms : L .terms < 8

@@ -1,0 +1,6 @@
+pub mod Layout
+pub mod Form
+pub mod Record
+pub mod Check
+pub mod Fit
+pub mod Equations

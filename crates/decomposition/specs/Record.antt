@@ -1,0 +1,60 @@
+-- The record of a decomposition, and the operation Read.
+use mathlib.Core.Bool.{Bool, _&&_}
+use mathlib.Core.List.{List, [], _∷_, _++_}
+use mathlib.Core.Path.{_≡_}
+use Prim.Native.Nat.{ℕ, _+_}
+use lib.Dec.{leb, eqb}
+use lib.ListN.{length, getD, take, drop}
+use Rattle.xor.specs.Sum.{Small}
+use Rattle.refusal.specs.Large.{testBelow}
+use Rattle.refusal.specs.Outcome.{Outcome, done, refused, test}
+use Rattle.decomposition.specs.Layout.{known, layout, Known}
+use Rattle.decomposition.specs.declared.Layout.{Layout}
+use Rattle.decomposition.specs.declared.ReadAnswer.{ReadAnswer}
+use Rattle.decomposition.specs.declared.ReadAnswer.the-variants.{Done, Refused}
+
+-- ---- the record
+
+-- the letters `DCP`, the version as two bytes, high first, and the width; then the basis; then p1 to pt
+unfoldable pub headed : ℕ → List ℕ → List ℕ → List ℕ
+headed n basis p = 68 ∷ 67 ∷ 80 ∷ 0 ∷ 1 ∷ n ∷ (basis ++ p)
+
+abbrev pub recordOf : Layout → List ℕ → List ℕ → List ℕ
+recordOf L basis p = headed (L .width) basis p
+
+-- the parts of a record
+abbrev pub basisOf : Layout → List ℕ → List ℕ
+basisOf L r = take (L .basis) (drop 6 r)
+
+abbrev pub solutionOf : Layout → List ℕ → List ℕ
+solutionOf L r = drop (L .start) r
+
+-- the mark and the version are right
+unfoldable pub marked : List ℕ → Bool
+marked r = eqb (getD r 0 0) 68 && (eqb (getD r 1 0) 67 && (eqb (getD r 2 0) 80 && (eqb (getD r 3 0) 0 && eqb (getD r 4 0) 1)))
+
+-- ---- Read
+
+-- the tests that follow once the width is known
+abbrev pub readAt : Layout → List ℕ → Outcome
+readAt L r = test (eqb (length r) (L .size)) 2 0 (testBelow (L .inputs) 6 (drop 6 r) (done (L .width ∷ [])))
+
+-- what Read answers
+unfoldable pub readOutcome : List ℕ → Outcome
+readOutcome r =
+    test (leb 6 (length r)) 2 0
+    (test (marked r) 5 0
+    (test (known (getD r 5 0)) 1 0
+    (readAt (layout (getD r 5 0)) r)))
+
+-- the outcome that each case of the answer stands for
+abbrev pub readReported : ReadAnswer → Outcome
+readReported (Done width) = done (width ∷ [])
+readReported (Refused number place) = refused number place
+
+-- a record that Read accepts, of width n
+pub record Accepted (n : ℕ) (r : List ℕ) : Type 0 where
+  pub width : Known n
+  pub named : getD r 5 0 ≡ n
+  pub whole : length r ≡ layout n .size
+  pub elements : Small n (drop 6 r)

@@ -1,0 +1,89 @@
+// Powers over the listed exponents, the values of polynomials, and the form of a record.
+ghost use mathlib.Core.Path.{_≡_};
+ghost use Prim.Native.Nat.{ℕ, _+_, _-_, _≤_};
+ghost use lib.ListN.{length};
+ghost use Rattle.field.specs.Mul.{Width};
+ghost use Rattle.field.specs.Polynomial.{exponents};
+ghost use Rattle.linear.specs.Scalars.{scalars};
+ghost use Rattle.linear.specs.Row.{Agree, dot};
+ghost use Rattle.linear.specs.Buffer.{from, Filled};
+ghost use Rattle.decomposition.specs.Layout.{Sizes};
+ghost use Rattle.decomposition.specs.Form.{monomial};
+ghost use Rattle.decomposition.specs.Check.{recordForm, recordProducts};
+use crate::Layout;
+
+// Writes the powers of x from a on, one for each of the first exponents.
+pub fn power_row(width: u32, count: usize, out: &mut [u8], a: usize, x: u8)
+    requires { ⌜ Width width ⌝ }
+    requires { ⌜ (count ≤ length (exponents width)) × (a + count ≤ length (now out)) ⌝ }
+    ensures { λ _. ⌜ Filled (now (out .entry)) (now (out .exit)) a count (monomial width x) ⌝ }
+{
+    let mut j = 0;
+    while j < count {
+        let e = field::exponent(width, j);
+        out[a + j] = field::pow(width, x, e);
+        j += 1;
+    }
+}
+
+// The value of the polynomial whose coefficients stand at b, where the powers of the input stand at a.
+pub fn evaluate(
+    width: u32,
+    count: usize,
+    coefficients: &[u8],
+    b: usize,
+    powers: &[u8],
+    a: usize,
+) -> u8
+    requires { ⌜ Width width ⌝ }
+    requires { ⌜ (b + count ≤ length (now coefficients)) × (a + count ≤ length (now powers)) ⌝ }
+    ensures { λ r. ⌜ r ≡ dot (scalars width) count (from (now (coefficients .entry)) b) (from (now (powers .entry)) a) ⌝ }
+{
+    let mut sum = 0u8;
+    let mut j = 0;
+    while j < count {
+        let c = coefficients[b + j];
+        let x = powers[a + j];
+        sum = sum ^ field::mul(width, c, x);
+        j += 1;
+    }
+    sum
+}
+
+// p1·q1 + .. + p(t-1)·q(t-1) of a record at an input, whose powers are given.
+fn products(layout: Layout, bytes: &[u8], powers: &[u8]) -> u8
+    requires { ⌜ Sizes layout ⌝ }
+    requires { ⌜ (length (now bytes) ≡ layout .size) × (layout .exponents ≤ length (now powers)) ⌝ }
+    ensures { λ r. ⌜ ((x : ℕ) → Agree (layout .exponents) (from (now (powers .entry)) 0) (monomial (layout .width) x)
+        → r ≡ recordProducts layout (now (bytes .entry)) x (layout .terms - 1)) ⌝ }
+{
+    let width = layout.width;
+    let count = layout.exponents;
+    let last = layout.terms - 1;
+    let start = layout.start;
+    let mut sum = 0u8;
+    let mut i = 0;
+    while i < last {
+        let p = evaluate(width, count, bytes, start + i * count, powers, 0);
+        let q = evaluate(width, count, bytes, 6 + i * count, powers, 0);
+        sum = sum ^ field::mul(width, p, q);
+        i += 1;
+    }
+    sum
+}
+
+// The form of a record at an input.
+pub fn form_at(layout: Layout, bytes: &[u8], x: u8) -> u8
+    requires { ⌜ Sizes layout ⌝ }
+    requires { ⌜ length (now bytes) ≡ layout .size ⌝ }
+    ensures { λ r. ⌜ r ≡ recordForm layout (now (bytes .entry)) x ⌝ }
+{
+    let width = layout.width;
+    let count = layout.exponents;
+    let last = layout.terms - 1;
+    let start = layout.start;
+    let mut powers = [0u8; 32];
+    power_row(width, count, &mut powers, 0, x);
+    let sum = products(layout, bytes, &powers);
+    sum ^ evaluate(width, count, bytes, start + last * count, &powers, 0)
+}

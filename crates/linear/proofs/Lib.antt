@@ -1,0 +1,11 @@
+pub mod Scalars
+pub mod Row
+pub mod System
+pub mod RowOperations
+pub mod Reduced
+pub mod Elimination
+pub mod Steps
+pub mod ReadOff
+pub mod Exists
+pub mod Buffer
+pub mod Turns

@@ -1,0 +1,5 @@
+pub mod Scalars
+pub mod Row
+pub mod System
+pub mod Elimination
+pub mod Buffer

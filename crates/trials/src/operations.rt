@@ -1,0 +1,29 @@
+// The operations that have cases. An operation is added by a module that tries its cases, an arm here and a line in `main`.
+use crate::answer::Trial;
+use crate::try_check::try_check;
+use crate::try_fit::try_fit;
+use crate::try_house_fit::try_house_fit;
+use crate::try_join::try_join;
+use crate::try_read::try_read;
+use crate::try_split::try_split;
+
+pub enum Operation {
+    Read,
+    Check,
+    Fit,
+    HouseFit,
+    Split,
+    Join,
+}
+
+// Tries the case that begins at a place of the file.
+pub fn try_case(operation: Operation, file: &[u8], at: usize) -> Trial {
+    match operation {
+        Operation::Read => try_read(file, at),
+        Operation::Check => try_check(file, at),
+        Operation::Fit => try_fit(file, at),
+        Operation::HouseFit => try_house_fit(file, at),
+        Operation::Split => try_split(file, at),
+        Operation::Join => try_join(file, at),
+    }
+}

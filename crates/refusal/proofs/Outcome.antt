@@ -5,7 +5,7 @@ use mathlib.Core.List.{List}
 use Prim.Native.Nat.{ℕ}
 use native.Mathlib.Omega.{arith}
 use borrow.Author.Tests.{not-true, not-false}
-use Rattle.refusal.specs.Outcome.{Outcome, done, refused, test, Answered}
+use Rattle.refusal.specs.Outcome.{Outcome, done, refused, test, andThen, Answered}
 
 -- a test b that code computes as r, where code goes on by `!r`
 pub test-fails : {r b : Bool} → r ≡ b → not r ≡ true → b ≡ false
@@ -20,6 +20,12 @@ pub passed : (b : Bool) (number place : ℕ) (next : Outcome) {numbers : List �
     → (b ≡ true) × (next ≡ done numbers)
 passed true number place next e = (refl, e)
 passed false number place next e = let z : _≡_ {A = ℕ} 0 1 = cc in absurd (omega arith)
+
+-- where two parts succeed one after the other, each does
+pub then-passed : (o next : Outcome) {numbers : List ℕ} → andThen o next ≡ done numbers
+    → (first : List ℕ) × (o ≡ done first) × (next ≡ done numbers)
+then-passed (done first) next e = (first, refl, e)
+then-passed (refused number place) next e = let z : _≡_ {A = ℕ} 0 1 = cc in absurd (omega arith)
 
 -- the operation is refused, and has written nothing
 pub refuses : {outcome : Outcome} {number place : ℕ} {new old : List ℕ}

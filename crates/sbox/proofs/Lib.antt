@@ -7,3 +7,13 @@ pub mod Coupling
 pub mod Places
 pub mod Experiment
 pub mod Secrecy
+pub mod Record
+pub mod Theorems
+pub mod Holds
+pub mod Lockstep
+pub mod TableProgram
+pub mod TableRuns
+pub mod TableFigures
+pub mod Widths
+pub mod Calls
+pub mod Answers

@@ -3,3 +3,8 @@ pub mod Form
 pub mod Shape
 pub mod Figures
 pub mod Experiment
+pub mod Polynomials
+pub mod Table
+pub mod TableSteps
+pub mod TableCounts
+pub mod Operations

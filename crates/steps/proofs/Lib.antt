@@ -4,6 +4,7 @@ pub mod Choices
 pub mod Shape
 pub mod Watch
 pub mod Coupling
+pub mod Lockstep
 pub mod Sharing
 pub mod Split
 pub mod Secrecy

@@ -1,7 +1,7 @@
 -- The laws of programs: what one program and then another comes to, and the turns of a loop.
-use mathlib.Core.Path.{_≡_, refl, sym, ap}
+use mathlib.Core.Path.{_≡_, refl, sym, ap, ap₂, _∙_}
 use mathlib.Core.List.{List, [], _∷_, _++_}
-use Prim.Native.Nat.{ℕ, suc, _+_, _-_, _≤_, _<_}
+use Prim.Native.Nat.{ℕ, zero, suc, _+_, _-_, _≤_, _<_}
 use native.Mathlib.Omega.{arith}
 use lib.ListN.{length, drop}
 use lib.Seq.{drop-nil}
@@ -68,6 +68,37 @@ for-turn i s f a h = let e : s - i ≡ suc (s - (i + 1)) = omega arith in rw e
 pub for-end : {A : Type 0} (i s : ℕ) (f : ℕ → A → Run A) (a : A) → s ≤ i → for i s f a ≡ done a
 unfolding for loop
 for-end i s f a h = let e : s - i ≡ 0 = omega arith in rw e
+
+-- a loop up to s is the loop up to j, and then the rest
+loop-add : {A : Type 0} (f : ℕ → A → Run A) (i k l : ℕ) (a : A) → loop f i (k + l) a ≡ (loop f i k a >>= loop f (i + k) l)
+unfolding loop _>>=_
+loop-add f i zero l a = let e : 0 + l ≡ l = omega arith in let e′ : i + 0 ≡ i = omega arith in rw (e, e′)
+loop-add {A} f i (suc k) l a =
+    let e : suc k + l ≡ suc (k + l) = omega arith in
+    let e′ : i + suc k ≡ i + 1 + k = omega arith in
+    rw (e, e′)
+    (ap (λ (g : A → Run A). f i a >>= g) (λ x b. loop-add f (i + 1) k l b x) ∙ sym (bind-bind (f i a) (loop f (i + 1) k) (loop f (i + 1 + k) l)))
+
+pub for-split : {A : Type 0} (i j s : ℕ) (f : ℕ → A → Run A) (a : A) → i ≤ j → j ≤ s → for i s f a ≡ (for i j f a >>= for j s f)
+unfolding for
+for-split i j s f a h l =
+    let e : s - i ≡ (j - i) + (s - j) = omega arith in
+    let e′ : i + (j - i) ≡ j = omega arith in
+    rw e (rw e′ at (loop-add f i (j - i) (s - j) a))
+
+-- two loops whose turns are the same
+loop-same : {A : Type 0} (f g : ℕ → A → Run A) (i k s : ℕ) → i + k ≡ s → ((j : ℕ) (a : A) → i ≤ j → j < s → f j a ≡ g j a)
+    → (a : A) → loop f i k a ≡ loop g i k a
+unfolding loop
+loop-same f g i zero s e h a = refl
+loop-same {A} f g i (suc k) s e h a =
+    ap₂ (λ (m : Run A) (c : A → Run A). m >>= c) (h i a (omega arith) (omega arith))
+    (λ x b. loop-same f g (i + 1) k s (omega arith) (λ j a l. h j a (omega arith)) b x)
+
+pub for-same : {A : Type 0} (i s : ℕ) (f g : ℕ → A → Run A) → i ≤ s → ((j : ℕ) (a : A) → i ≤ j → j < s → f j a ≡ g j a)
+    → (a : A) → for i s f a ≡ for i s g a
+unfolding for
+for-same i s f g l h a = loop-same f g i (s - i) s (omega arith) h a
 
 -- ---- tapes
 

@@ -10,5 +10,7 @@ pub mod splitting;
 pub use counts::Counts;
 pub use drawing::bytes_for;
 pub use drawing::draw;
+pub use drawing::element_count;
+pub use drawing::first_large_element;
 pub use recording::record;
 pub use recording::record_all;

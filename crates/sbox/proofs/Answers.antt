@@ -1,0 +1,145 @@
+-- ANSWERS ALIKE. Two calls of S-box, or of Watch S-box, with the same record, share count, list and slice lengths, and with elements that are too large,
+-- if any, at the same places, give the same answer, whatever the shares and the random elements; and what they hand back are the paper's figures.
+use mathlib.Core.Path.{_≡_, refl, sym, ap, ap₂, _∙_, subst}
+use mathlib.Core.Bool.{Bool, _&&_}
+use mathlib.Core.List.{List, [], _∷_, _++_}
+use Prim.Native.Nat.{ℕ, zero, suc, _+_, _^_, _≤_, _<_}
+use native.Mathlib.Omega.{arith}
+use lib.Dec.{leb, eqb}
+use lib.ListN.{length, length-append, length-replicate, List·getD-eq-default}
+use lib.Pow.{pow-pos}
+use Rattle.xor.specs.Sum.{join, Small}
+use Rattle.refusal.specs.Outcome.{Outcome, done, refused, andThen}
+use Rattle.refusal.specs.Large.{firstLarge, LargeAlike}
+use Rattle.refusal.proofs.Large.{all-small, large-same, alike-append, both-small}
+use Rattle.steps.specs.Sharing.{Sharing}
+use Rattle.steps.specs.Tape.{elements, bytesFor}
+use Rattle.steps.proofs.Tape.{elements-length}
+use Rattle.sbox.specs.Figures.{sboxProducts, sboxDraws, sboxSteps}
+use Rattle.sbox.specs.Polynomials.{basisIn, solutionIn}
+use Rattle.sbox.specs.Operations.{widthOf, callProgram, callCounts, argumentTests, callTests, sboxOutcome, testSteps, watchOutcome, Callable}
+use Rattle.sbox.proofs.Record.{accepted-record}
+use Rattle.sbox.proofs.Runs.{trace-length, draws-are, products-length}
+use Rattle.sbox.proofs.Calls.{tests-passed}
+use Rattle.refusal.specs.Range.{oneTo}
+use Rattle.refusal.proofs.Outcome.{passed, then-passed}
+use Rattle.decomposition.specs.Record.{readOutcome}
+use borrow.Author.Tests.{leb-true}
+
+-- the figures of a call of width n and s shares
+unfoldable pub figures : ℕ → ℕ → List ℕ
+figures n s = sboxProducts n ∷ bytesFor n (sboxDraws n s) ∷ sboxSteps n s ∷ []
+
+-- s small elements are a sharing of their sum
+sharing-of : (n s : ℕ) (a : List ℕ) → length a ≡ s → Small n a → Sharing n s (join a) a
+sharing-of n s a e h = record { small = h; past = λ i l. List·getD-eq-default a 0 {n = i} (omega arith); joins = refl }
+
+-- two calls whose slices have the same lengths, and their elements that are too large, if any, at the same places
+pub record SamePlaces (n : ℕ) (shares shares′ random random′ : List ℕ) : Type 0 where
+  pub same-shares : length shares ≡ length shares′
+  pub same-random : length random ≡ length random′
+  pub large-shares : LargeAlike (2 ^ n) shares shares′
+  pub large-random : LargeAlike (2 ^ n) (elements n random) (elements n random′)
+
+-- ---- the tests go by lengths and by the places of elements that are too large
+
+tests-alike : (r : List ℕ) (s : ℕ) {shares shares′ random random′ : List ℕ} → SamePlaces (widthOf r) shares shares′ random random′
+    → (fits : Bool) → callTests r s shares random fits ≡ callTests r s shares′ random′ fits
+unfolding callTests argumentTests
+tests-alike r s {shares} {shares′} {random} {random′} h fits =
+    let n = widthOf r in
+    let l = shares ++ elements n random in
+    let l′ = shares′ ++ elements n random′ in
+    let whole : length l ≡ length l′ =
+    length-append shares (elements n random)
+    ∙ ap₂ (λ (a b : ℕ). a + b) (h .same-shares) (elements-length n random random′ (h .same-random))
+    ∙ sym (length-append shares′ (elements n random′)) in
+    let first : firstLarge (2 ^ n) l ≡ firstLarge (2 ^ n) l′ =
+    large-same (2 ^ n) l l′ whole
+    (alike-append (2 ^ n) shares shares′ (elements n random) (elements n random′) (h .same-shares) (h .large-shares) (h .large-random)) in
+    rw (h .same-shares, h .same-random, whole, first)
+
+-- ---- where the tests are passed the figures are the paper's
+
+-- all elements are small, and the width is handed on
+elements-small : (r : List ℕ) (s : ℕ) (shares random : List ℕ) (fits : Bool) {v : List ℕ} → callTests r s shares random fits ≡ done v
+    → Small (widthOf r) shares × Small (widthOf r) (elements (widthOf r) random) × (done (widthOf r ∷ []) ≡ done v)
+unfolding callTests argumentTests
+elements-small r s shares random fits e =
+    let n = widthOf r in
+    let l = shares ++ elements n random in
+    let a = then-passed (readOutcome r) _ e in
+    let b = passed (oneTo 9 s) 7 0 _ (a .2) in
+    let c = passed (eqb (length shares) s) 2 0 _ (b .1) in
+    let d = passed (eqb (length random) (bytesFor n (sboxDraws n s))) 2 0 _ (c .1) in
+    let f = passed fits 2 0 _ (d .1) in
+    let g = passed (leb (length l) (firstLarge (2 ^ n) l)) 3 (0 + firstLarge (2 ^ n) l) _ (f .1) in
+    let both = both-small (2 ^ n) shares (elements n random) (leb-true (length l) (firstLarge (2 ^ n) l) (g .0)) in
+    (all-small (2 ^ n) shares (pow-pos n) (both .0), all-small (2 ^ n) (elements n random) (pow-pos n) (both .1), g .1)
+
+-- the call is one that can run
+passed-call : (r : List ℕ) (s : ℕ) (shares random : List ℕ) (fits : Bool) {v : List ℕ} → callTests r s shares random fits ≡ done v
+    → Callable (widthOf r) r s shares random
+passed-call r s shares random fits e =
+    tests-passed r s shares random fits (widthOf r) (e ∙ sym (elements-small r s shares random fits e .2)) .0
+
+counts-figures : (r : List ℕ) (s : ℕ) (shares random : List ℕ) (fits : Bool) {v : List ℕ} → callTests r s shares random fits ≡ done v
+    → callCounts r s shares random ≡ figures (widthOf r) s
+unfolding callCounts callProgram figures
+counts-figures r s shares random fits e =
+    let n = widthOf r in
+    let small = elements-small r s shares random fits e in
+    let call = passed-call r s shares random fits e in
+    let accepted = accepted-record n r (call .accepted) in
+    let sharing = sharing-of n s shares (call .shares-length) (small .0) in
+    let steps = trace-length accepted s (join shares) shares (elements n random) (call .some) (call .nine) sharing (small .1) in
+    let drawn = ap length (draws-are accepted s (join shares) shares (elements n random) (call .some) (call .nine) sharing (small .1))
+    ∙ length-replicate (sboxDraws n s) n in
+    let made = products-length accepted s (join shares) shares (elements n random) (call .some) (call .nine) sharing (small .1) in
+    rw (steps, drawn, made)
+
+-- ---- the answers
+
+answers-alike : (r : List ℕ) (s : ℕ) {shares shares′ random random′ : List ℕ} → SamePlaces (widthOf r) shares shares′ random random′
+    → (fits : Bool) (next : List ℕ → Outcome)
+    → andThen (callTests r s shares random fits) (next (callCounts r s shares random))
+    ≡ andThen (callTests r s shares′ random′ fits) (next (callCounts r s shares′ random′))
+answers-alike r s {shares} {shares′} {random} {random′} h fits next =
+    go (callTests r s shares random fits) (callTests r s shares′ random′ fits) refl refl (tests-alike r s h fits)
+  where
+    go : (a b : Outcome) → callTests r s shares random fits ≡ a → callTests r s shares′ random′ fits ≡ b → callTests r s shares random fits ≡ callTests r s shares′ random′ fits
+        → andThen a (next (callCounts r s shares random)) ≡ andThen b (next (callCounts r s shares′ random′))
+    go (done v) (done w) p q e =
+        ap next (counts-figures r s shares random fits p ∙ sym (counts-figures r s shares′ random′ fits q))
+    go (refused k l) (refused k′ l′) p q e = sym p ∙ e ∙ q
+    go (done v) (refused k l) p q e = absurd (never (sym p ∙ e ∙ q))
+      where
+        never : {v : List ℕ} {k l : ℕ} → done v ≡ refused k l → ⊥
+        never e = let z : _≡_ {A = ℕ} 0 1 = cc in omega arith
+    go (refused k l) (done v) p q e = absurd (never (sym q ∙ sym e ∙ p))
+      where
+        never : {v : List ℕ} {k l : ℕ} → done v ≡ refused k l → ⊥
+        never e = let z : _≡_ {A = ℕ} 0 1 = cc in omega arith
+
+pub sbox-answers : (r : List ℕ) (s : ℕ) {shares shares′ random random′ : List ℕ} (out : ℕ) → SamePlaces (widthOf r) shares shares′ random random′
+    → sboxOutcome r s shares random out ≡ sboxOutcome r s shares′ random′ out
+unfolding sboxOutcome
+sbox-answers r s out h = answers-alike r s h (eqb out s) done
+
+pub watch-answers : (r : List ℕ) (s : ℕ) {shares shares′ random random′ : List ℕ} (list : List ℕ) (values : ℕ)
+    → SamePlaces (widthOf r) shares shares′ random random′
+    → watchOutcome r s shares random list values ≡ watchOutcome r s shares′ random′ list values
+unfolding watchOutcome
+watch-answers r s list values h =
+    answers-alike r s h (eqb (length list) values && leb (length list) 64) (λ c. testSteps (sboxSteps (widthOf r) s) list (done c))
+
+-- a call that is done hands back the figures
+pub sbox-figures : (r : List ℕ) (s : ℕ) (shares random : List ℕ) (out : ℕ) {v : List ℕ}
+    → sboxOutcome r s shares random out ≡ done v → v ≡ figures (widthOf r) s
+unfolding sboxOutcome
+sbox-figures r s shares random out e =
+    let a = then-passed (callTests r s shares random (eqb out s)) _ e in
+    values-of (sym (a .2)) ∙ counts-figures r s shares random (eqb out s) (a .1)
+  where
+    values-of : {v w : List ℕ} → done v ≡ done w → v ≡ w
+    values-of e = cc

@@ -1,0 +1,91 @@
+-- What the parts of the code's program come to on the machine, and the turn of the loop that puts a row.
+use mathlib.Core.Path.{_≡_, refl, _∙_}
+use mathlib.Core.List.{List, [], _∷_}
+use Prim.Native.Nat.{ℕ, zero, suc, _+_, _*_, _≤_, _<_}
+use native.Mathlib.Nat.{mul-le-mul-right, suc-mul}
+use native.Mathlib.Numerals.{add-one}
+use native.Mathlib.Omega.{arith}
+use lib.Bits.{bitXor}
+use lib.ListN.{getD, set}
+use Rattle.xor.specs.Xor.{_⊕_}
+use Rattle.field.specs.Mul.{mul}
+use Rattle.steps.specs.declared.counts.Counts.{Counts}
+use Rattle.steps.specs.Program.{Run, done, _>>=_, note}
+use Rattle.steps.specs.Sharing.{share}
+use Rattle.steps.specs.Recorder.{seen, observed}
+use Rattle.steps.specs.Machine.{exec, ended, Went}
+use Rattle.steps.proofs.Machine.{then-runs, done-runs}
+use Rattle.product.specs.Product.{product}
+use Rattle.sbox.specs.Sbox.{constant}
+use Rattle.sbox.specs.Table.{cell, setCell, row, putFirst, put}
+use Rattle.sbox.specs.TableSteps.{squareShare, multiplyRows, termAt, addRow}
+
+module _ (tape watch : List ℕ) where
+  -- the square of one share
+  pub square-runs : (w r i : ℕ) (t : List ℕ) (n : Counts) (vs : List ℕ) (v k : ℕ) (vs′ : List ℕ)
+      → v ≡ mul w (cell t r i) (cell t r i)
+      → k ≡ n .steps + 1
+      → vs′ ≡ seen watch (n .steps) v vs
+      → exec tape watch (squareShare w r i t) n vs
+      ≡ ended (setCell t (r + 1) i v) (record { products = n .products; random = n .random; steps = k }) vs′
+  unfolding exec squareShare _>>=_ note
+  square-runs w r i t n vs v k vs′ ev ek es = rw (es, ek, ev)
+
+  -- the two steps of a term
+  pub term-runs : (w : ℕ) (rec : List ℕ) (p i : ℕ) (t : List ℕ) (r u : ℕ) (n : Counts) (vs : List ℕ) (v k : ℕ) (vs′ : List ℕ)
+      → v ≡ mul w (getD rec (p + (r + 1)) 0) (cell t r i)
+      → k ≡ n .steps + 2
+      → vs′ ≡ observed watch (n .steps) (v ∷ bitXor u v ∷ []) vs
+      → exec tape watch (termAt w rec p i t r u) n vs
+      ≡ ended (bitXor u v) (record { products = n .products; random = n .random; steps = k }) vs′
+  unfolding exec termAt _>>=_ note observed _⊕_
+  term-runs w rec p i t r u n vs v k vs′ ev ek es = let e : n .steps + 2 ≡ n .steps + 1 + 1 = omega arith in rw (es, ek, ev, e)
+
+  -- one addition
+  pub add-runs : (i : ℕ) (t : List ℕ) (r u : ℕ) (n : Counts) (vs : List ℕ) (k : ℕ) (vs′ : List ℕ)
+      → k ≡ n .steps + 1
+      → vs′ ≡ seen watch (n .steps) (bitXor u (cell t r i)) vs
+      → exec tape watch (addRow i t r u) n vs
+      ≡ ended (bitXor u (cell t r i)) (record { products = n .products; random = n .random; steps = k }) vs′
+  unfolding exec addRow note _⊕_
+  add-runs i t r u n vs k vs′ ek es = rw (es, ek)
+
+  -- the product of two rows
+  pub multiply-runs : (w s x y z : ℕ) (t : List ℕ) (n : Counts) (vs : List ℕ) {a b c t′ : List ℕ} {n′ : Counts} {vs′ : List ℕ}
+      → a ≡ row t x
+      → b ≡ row t y
+      → exec tape watch (product w s a b) n vs ≡ ended c n′ vs′
+      → t′ ≡ put t z c
+      → exec tape watch (multiplyRows w s x y z t) n vs ≡ ended t′ n′ vs′
+  unfolding multiplyRows
+  multiply-runs w s x y z t n vs ea eb e et =
+      then-runs tape watch (product w s (row t x) (row t y)) (λ c. done (put t z c)) n vs (rw (ea, eb) at e) (done-runs tape watch _ _ et)
+
+-- a program that has run, and whose result is then changed
+pub went-done : {A B : Type 0} {p q r : ℕ} {tape watch : List ℕ} {m : Run A} {n : Counts} {vs : List ℕ} {x : A} {n′ : Counts} {vs′ : List ℕ} (g : A → B)
+    → Went p q r tape watch m n vs x n′ vs′ → Went p q r tape watch (m >>= (λ a. done (g a))) n vs (g x) n′ vs′
+went-done {tape = tape} {watch = watch} {m = m} {n = n} {vs = vs} {n′ = n′} {vs′ = vs′} g w = record {
+  runs = then-runs tape watch m (λ a. done (g a)) n vs (w .runs) (done-runs tape watch n′ vs′ refl);
+  took-products = w .took-products;
+  took-draws = w .took-draws;
+  took-steps = w .took-steps;
+}
+
+-- one more share of a row that is put
+pub put-turn : (k : ℕ) (t₀ : List ℕ) (r : ℕ) (c t : List ℕ) → t ≡ putFirst k t₀ r c → set t (9 * r + k) (getD c k 0) ≡ putFirst (k + 1) t₀ r c
+unfolding putFirst setCell
+put-turn k t₀ r c t e = rw (add-one, e)
+
+-- a constant goes to share 0 only
+pub constant-first : (i c : ℕ) → i ≡ 0 → c ≡ constant i c
+unfolding constant
+constant-first i c e = rw e
+
+pub constant-other : (i c : ℕ) → (i ≡ 0 → ⊥) → 0 ≡ constant i c
+unfolding constant
+constant-other zero c h = absurd (h refl)
+constant-other (suc i) c h = refl
+
+-- the places of the record: polynomial j of m coefficients ends within it, where j is below q
+pub place-within : (k : ℕ) {j q l : ℕ} → j < q → 6 + q * (k + 1) ≤ l → 6 + j * (k + 1) + k < l
+place-within k {j} {q} h e = omega (arith, mul-le-mul-right (k + 1) h, suc-mul j (k + 1))

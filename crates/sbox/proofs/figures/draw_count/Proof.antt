@@ -1,0 +1,36 @@
+-- `draw_count` meets its contract.
+use native.Mathlib.Omega.{arith}
+use borrow.Author.Needs.{needs}
+use Rattle.field.proofs.Turns.{width-6}
+use Rattle.sbox.specs.Figures.{sboxDraws}
+use Rattle.sbox.proofs.Calls.{few-pairs}
+use Rattle.sbox.proofs.figures.draw_count.Statement.{statement}
+use Rattle.sbox.proofs.figures.draw_count.Tie as tie
+
+sub-result : tie.Need-sub-result
+sub-result c = search needs
+
+mul-result : tie.Need-mul-result
+mul-result c = omega (arith, few-pairs (c .before .pre .1 .1))
+
+sub-result-2 : tie.Need-sub-result-2
+sub-result-2 c = search needs
+
+mul-result-2 : tie.Need-mul-result-2
+mul-result-2 c = omega (arith, few-pairs (c .before .pre .1 .1))
+
+mul-result-3 : tie.Need-mul-result-3
+mul-result-3 c = omega (arith, few-pairs (c .before .pre .1 .1))
+
+returns : tie.Need-returns
+unfolding sboxDraws
+returns c = rw (c .if1 .taken)
+
+returns-2 : tie.Need-returns-2
+unfolding sboxDraws
+returns-2 c = rw (width-6 _ (c .before .pre .0) (c .if1 .left))
+
+pub draw-count-spec : {M : Type 1} → statement M
+draw-count-spec =
+    tie.close
+    (tie.spec sub-result mul-result sub-result-2 mul-result-2 mul-result-3 returns returns-2)

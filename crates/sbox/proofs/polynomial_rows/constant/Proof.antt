@@ -1,0 +1,14 @@
+-- `constant` meets its contract.
+use borrow.Author.Needs.{needs}
+use Rattle.sbox.proofs.TableRuns.{constant-first, constant-other}
+use Rattle.sbox.proofs.polynomial_rows.constant.Statement.{statement}
+use Rattle.sbox.proofs.polynomial_rows.constant.Tie as tie
+
+returns : tie.Need-returns
+returns c = search (needs, constant-first)
+
+returns-2 : tie.Need-returns-2
+returns-2 c = search (needs, constant-other)
+
+pub constant-spec : {M : Type 1} → statement M
+constant-spec = tie.close (tie.spec returns returns-2)

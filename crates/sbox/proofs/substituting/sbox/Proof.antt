@@ -1,0 +1,58 @@
+-- `sbox` meets its contract: by what the tests come to.
+use mathlib.Core.Path.{_≡_, sym, ap, _∙_}
+use mathlib.Core.Bool.{true}
+use mathlib.Core.List.{[], _∷_}
+use borrow.Author.Needs.{needs}
+use borrow.Author.Tests.{eqb-true}
+use lib.Dec.{eqb}
+use lib.ListN.{length}
+use Rattle.refusal.specs.Outcome.{done, refused}
+use Rattle.refusal.proofs.Outcome.{refuses}
+use Rattle.sbox.specs.Operations.{Callable, testedReport, callTests, sboxOutcome}
+use Rattle.sbox.proofs.Calls.{tests-passed}
+use Rattle.sbox.proofs.substituting.sbox.Statement.{statement}
+use Rattle.sbox.proofs.substituting.sbox.Tie as tie
+
+-- where the tests are passed
+tested : (c : tie.After-tested2) → let a = c .before .before .before .before .before .before .before .args in
+    callTests (a .rec .now) (a .s) (a .shares .now) (a .random .now) (eqb (length (a .out .now)) (a .s)) ≡ done (c .tested2 .given .0 .0 ∷ [])
+tested c = sym (c .before .before .call-tests .ensures) ∙ ap testedReport (c .tested2 .given .1)
+
+call-tests-requires : tie.Need-call-tests-requires
+call-tests-requires c κs = search needs
+
+enum-known-tested : tie.Need-enum-known-tested
+enum-known-tested c = search needs
+
+enum-known-tested-2 : tie.Need-enum-known-tested-2
+enum-known-tested-2 c = search needs
+
+substitute-requires : tie.Need-substitute-requires
+substitute-requires c κs =
+    let p = tests-passed _ _ _ _ _ _ (tested (c .before .before)) in
+    (p .0, eqb-true _ _ (p .1))
+
+returns : tie.Need-returns
+unfolding sboxOutcome
+returns c =
+    let e = sym (c .before .before .before .call-tests .ensures) ∙ ap testedReport (c .before .tested .given .1) in
+    refuses (rw e)
+
+same-length : tie.Need-same-length
+same-length c = search needs
+
+returns-2 : tie.Need-returns-2
+unfolding sboxOutcome
+returns-2 c = rw (tested (c .before .before .before .before .before)) (c .before .before .substitute .ensures)
+
+pub sbox-spec : {M : Type 1} → statement M
+sbox-spec =
+    tie.close
+    (tie.spec
+    call-tests-requires
+    enum-known-tested
+    enum-known-tested-2
+    substitute-requires
+    returns
+    same-length
+    returns-2)

@@ -1,0 +1,115 @@
+-- The operations S-box and Watch S-box. A sharing lies share 0 first.
+use mathlib.Core.Path.{_≡_}
+use mathlib.Core.Bool.{Bool, _&&_}
+use mathlib.Core.List.{List, [], _∷_, _++_}
+use Prim.Native.Nat.{ℕ, _^_, _≤_, _<_}
+use lib.Dec.{leb, eqb}
+use lib.ListN.{length, getD}
+use Rattle.refusal.specs.Outcome.{Outcome, done, refused, test, andThen}
+use Rattle.refusal.specs.Range.{oneTo}
+use Rattle.refusal.specs.Large.{firstLarge, testBelow}
+use Rattle.steps.specs.Program.{Run, result, trace, draws, products}
+use Rattle.steps.specs.Watch.{watched}
+use Rattle.steps.specs.Sharing.{share}
+use Rattle.steps.specs.Fill.{tabulate}
+use Rattle.steps.specs.Tape.{elements, bytesFor}
+use Rattle.decomposition.specs.Record.{readOutcome, Accepted}
+use Rattle.sbox.specs.Sbox.{sbox}
+use Rattle.sbox.specs.Figures.{sboxDraws, sboxSteps}
+use Rattle.sbox.specs.Polynomials.{basisIn, solutionIn}
+use Rattle.sbox.specs.declared.checking.Tested.{Tested}
+use Rattle.sbox.specs.declared.checking.Tested.the-variants.{Passed, Refused}
+use Rattle.sbox.specs.declared.substituting.SboxAnswer.{SboxAnswer}
+use Rattle.sbox.specs.declared.substituting.SboxAnswer.the-variants.{Done as Sbox·Done, Refused as Sbox·Refused}
+use Rattle.sbox.specs.declared.watching.WatchAnswer.{WatchAnswer}
+use Rattle.sbox.specs.declared.watching.WatchAnswer.the-variants.{Done as Watch·Done, Refused as Watch·Refused}
+
+-- ---- the steps of a call
+
+-- the width that a record names
+abbrev pub widthOf : List ℕ → ℕ
+widthOf r = getD r 5 0
+
+-- the masked S-box of the shares by the record's polynomials
+unfoldable pub callProgram : List ℕ → ℕ → List ℕ → Run (List ℕ)
+callProgram r s shares = sbox (widthOf r) s (basisIn (widthOf r) r) (solutionIn (widthOf r) r) shares
+
+-- what a call hands back: how many masked products, random bytes and steps the program has
+unfoldable pub callCounts : List ℕ → ℕ → List ℕ → List ℕ → List ℕ
+callCounts r s shares random =
+    length (products 0 (callProgram r s shares) (elements (widthOf r) random))
+    ∷ bytesFor (widthOf r) (length (draws (callProgram r s shares) (elements (widthOf r) random)))
+    ∷ length (trace (callProgram r s shares) (elements (widthOf r) random))
+    ∷ []
+
+-- ---- the tests of both operations
+
+-- Those of the arguments at width n, `fits` saying whether what is lent for output has its length: 7 a share count not 1 to 9; 2 a length;
+-- 3 an element too large, its place counted through shares and random elements. They hand on the width.
+unfoldable pub argumentTests : ℕ → ℕ → List ℕ → List ℕ → Bool → Outcome
+argumentTests n s shares random fits =
+    test (oneTo 9 s) 7 0
+    (test (eqb (length shares) s) 2 0
+    (test (eqb (length random) (bytesFor n (sboxDraws n s))) 2 0
+    (test fits 2 0
+    (testBelow (2 ^ n) 0 (shares ++ elements n random)
+    (done (n ∷ []))))))
+
+-- Read's tests come first
+unfoldable pub callTests : List ℕ → ℕ → List ℕ → List ℕ → Bool → Outcome
+callTests r s shares random fits = andThen (readOutcome r) (argumentTests (widthOf r) s shares random fits)
+
+-- ---- S-box (record, s, shares, random, out)
+
+-- the outcome, by the length of out
+unfoldable pub sboxOutcome : List ℕ → ℕ → List ℕ → List ℕ → ℕ → Outcome
+sboxOutcome r s shares random out = andThen (callTests r s shares random (eqb out s)) (done (callCounts r s shares random))
+
+-- what it writes: shares 0 to s - 1 of the result
+unfoldable pub sboxOutput : List ℕ → ℕ → List ℕ → List ℕ → List ℕ
+sboxOutput r s shares random = tabulate s (share (result (callProgram r s shares) (elements (widthOf r) random)))
+
+-- what each answer stands for
+abbrev pub sboxReport : SboxAnswer → Outcome
+sboxReport (Sbox·Done products random steps) = done (products ∷ random ∷ steps ∷ [])
+sboxReport (Sbox·Refused number place) = refused number place
+
+-- ---- Watch S-box (record, s, shares, random, list, values)
+
+-- all step numbers are below the total, else a refusal by 8, whose place is that of the first that is not
+abbrev pub testSteps : ℕ → List ℕ → Outcome → Outcome
+testSteps total list next = test (leb (length list) (firstLarge total list)) 8 (firstLarge total list) next
+
+-- the outcome, by the length of values: the list has as many numbers, and at most 64
+unfoldable pub watchOutcome : List ℕ → ℕ → List ℕ → List ℕ → List ℕ → ℕ → Outcome
+watchOutcome r s shares random list values =
+    andThen (callTests r s shares random (eqb (length list) values && leb (length list) 64))
+    (testSteps (sboxSteps (widthOf r) s) list
+    (done (callCounts r s shares random)))
+
+-- what it writes: the value of the step named at each place of the list
+unfoldable pub watchOutput : List ℕ → ℕ → List ℕ → List ℕ → List ℕ → List ℕ
+watchOutput r s shares random list = watched list (trace (callProgram r s shares) (elements (widthOf r) random))
+
+-- what each answer stands for
+abbrev pub watchReport : WatchAnswer → Outcome
+watchReport (Watch·Done products random steps) = done (products ∷ random ∷ steps ∷ [])
+watchReport (Watch·Refused number place) = refused number place
+
+-- ---- where the tests are passed
+
+abbrev pub testedReport : Tested → Outcome
+testedReport (Passed width) = done (width ∷ [])
+testedReport (Refused number place) = refused number place
+
+-- two lists hold the same shares, 0 past either's end
+abbrev pub SameShares : List ℕ → List ℕ → Type 0
+SameShares a b = (i : ℕ) → share a i ≡ share b i
+
+-- a call with a record of width n that Read accepts, and arguments that pass the tests
+pub record Callable (n : ℕ) (r : List ℕ) (s : ℕ) (shares random : List ℕ) : Type 0 where
+  pub accepted : Accepted n r
+  pub some : 0 < s
+  pub nine : s ≤ 9
+  pub shares-length : length shares ≡ s
+  pub random-length : length random ≡ bytesFor n (sboxDraws n s)

@@ -1,0 +1,27 @@
+-- The table that the code of the S-box works on: sharings of nine places each, row after row, in one list.
+use mathlib.Core.List.{List}
+use Prim.Native.Nat.{ℕ, zero, suc, _+_, _*_}
+use lib.ListN.{getD, set}
+use Rattle.steps.specs.Fill.{tabulate}
+use Rattle.steps.specs.Sharing.{share}
+
+-- share i of row r
+unfoldable pub cell : List ℕ → ℕ → ℕ → ℕ
+cell t r i = getD t (9 * r + i) 0
+
+-- the table with v there
+unfoldable pub setCell : List ℕ → ℕ → ℕ → ℕ → List ℕ
+setCell t r i v = set t (9 * r + i) v
+
+-- row r
+unfoldable pub row : List ℕ → ℕ → List ℕ
+row t r = tabulate 9 (cell t r)
+
+-- the table with the first k shares of c in row r
+unfoldable pub putFirst : ℕ → List ℕ → ℕ → List ℕ → List ℕ
+putFirst zero t r c = t
+putFirst (suc k) t r c = setCell (putFirst k t r c) r k (share c k)
+
+-- the table with the sharing c as row r
+unfoldable pub put : List ℕ → ℕ → List ℕ → List ℕ
+put t r c = putFirst 9 t r c

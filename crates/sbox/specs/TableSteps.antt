@@ -1,0 +1,98 @@
+-- The steps of Sbox.antt as the code lays them out in its table: the sharings are rows, in the order in which they are made, first the k powers, then
+-- the h polynomials of the basis and the h + 1 of the p, then the h products. Only the proofs of the code use these programs.
+use mathlib.Core.Bool.{Bool, true, false}
+use mathlib.Core.List.{List}
+use Prim.Native.Nat.{ℕ, _+_, _-_, _*_}
+use lib.Dec.{eqb}
+use lib.ListN.{getD, replicate}
+use Rattle.xor.specs.Xor.{_⊕_}
+use Rattle.field.specs.Mul.{mul}
+use Rattle.steps.specs.Program.{Run, done, one, _>>=_, note, for}
+use Rattle.product.specs.Product.{product}
+use Rattle.sbox.specs.Sbox.{byShare, constant}
+use Rattle.sbox.specs.Table.{cell, setCell, row, put}
+
+-- ---- powers
+
+-- the square of share i of row r goes to row r + 1
+unfoldable pub squareShare : ℕ → ℕ → ℕ → List ℕ → Run (List ℕ)
+squareShare n r i t = do
+  v ← note (one i) (mul n (cell t r i) (cell t r i))
+  done (setCell t (r + 1) i v)
+
+-- the squares of all s shares of row r
+unfoldable pub squareRow : ℕ → ℕ → ℕ → List ℕ → Run (List ℕ)
+squareRow n s r t = for 0 s (squareShare n r) t
+
+-- the masked product of rows x and y goes to row z
+unfoldable pub multiplyRows : ℕ → ℕ → ℕ → ℕ → ℕ → List ℕ → Run (List ℕ)
+multiplyRows n s x y z t = do
+  c ← product n s (row t x) (row t y)
+  done (put t z c)
+
+-- the class of a product: that of rows x and y goes to row z, and each row from z on is squared into the next, up to row l
+unfoldable pub powerClass : ℕ → ℕ → ℕ → ℕ → ℕ → ℕ → List ℕ → Run (List ℕ)
+powerClass n s x y z l t = do
+  t′ ← multiplyRows n s x y z t
+  for z l (squareRow n s) t′
+
+-- at width 6, the class of x ^ 11 = x ^ 3 · x ^ 8
+unfoldable pub thirdRows : Bool → ℕ → ℕ → List ℕ → Run (List ℕ)
+thirdRows true n s t = powerClass n s 6 3 12 17 t
+thirdRows false n s t = done t
+
+-- the powers of row 0
+unfoldable pub powerRows : ℕ → ℕ → List ℕ → Run (List ℕ)
+powerRows n s t = do
+  t₁ ← for 0 (n - 1) (squareRow n s) t
+  t₂ ← powerClass n s 0 1 n (2 * n - 1) t₁
+  thirdRows (eqb n 6) n s t₂
+
+-- ---- polynomials
+
+-- the term of row r of the polynomial at place p of the record, for share i, is added to the sum u
+unfoldable pub termAt : ℕ → List ℕ → ℕ → ℕ → List ℕ → ℕ → ℕ → Run ℕ
+termAt n rec p i t r u = do
+  v ← note (one i) (mul n (getD rec (p + (r + 1)) 0) (cell t r i))
+  note (one i) (u ⊕ v)
+
+-- share i of that polynomial goes to row z
+unfoldable pub polynomialShare : ℕ → ℕ → List ℕ → ℕ → ℕ → ℕ → List ℕ → Run (List ℕ)
+polynomialShare n k rec p z i t = do
+  u ← for 0 k (termAt n rec p i t) (constant i (getD rec p 0))
+  done (setCell t z i u)
+
+-- polynomial j of the record goes to row k + j
+unfoldable pub polynomialRow : ℕ → ℕ → ℕ → List ℕ → ℕ → List ℕ → Run (List ℕ)
+polynomialRow n k s rec j t = for 0 s (polynomialShare n k rec (6 + j * (k + 1)) (k + j)) t
+
+-- ---- products and their sum
+
+-- the product of p and q number j goes to the row z + j
+unfoldable pub productRow : ℕ → ℕ → ℕ → ℕ → ℕ → ℕ → List ℕ → Run (List ℕ)
+productRow n s q p z j t = multiplyRows n s (p + j) (q + j) (z + j) t
+
+-- row r is added to the sum u, for share i
+unfoldable pub addRow : ℕ → List ℕ → ℕ → ℕ → Run ℕ
+addRow i t r u = note (one i) (u ⊕ cell t r i)
+
+-- share i of the first of the h products, row z, plus the others in order, plus the last p, which is the row before
+unfoldable pub totalShare : ℕ → ℕ → List ℕ → ℕ → Run ℕ
+totalShare h z t i = do
+  u ← for 0 (h - 1) (λ j. addRow i t (z + 1 + j)) (cell t z i)
+  addRow i t (z - 1) u
+
+-- ---- the whole
+
+-- all rows, from a table whose row 0 is x
+unfoldable pub fillRows : ℕ → ℕ → ℕ → ℕ → List ℕ → List ℕ → Run (List ℕ)
+fillRows n k h s rec t = do
+  t₁ ← powerRows n s t
+  t₂ ← for 0 (h + (h + 1)) (polynomialRow n k s rec) t₁
+  for 0 h (productRow n s k (k + h) (k + (h + (h + 1)))) t₂
+
+-- the masked S-box of the sharing x
+unfoldable pub sboxRows : ℕ → ℕ → ℕ → ℕ → List ℕ → List ℕ → Run (List ℕ)
+sboxRows n k h s rec x = do
+  t ← fillRows n k h s rec (put (replicate 252 0) 0 x)
+  byShare s (totalShare h (k + (h + (h + 1))) t)

@@ -1,0 +1,121 @@
+// The masked S-box of a sharing.
+ghost use Prim.Native.Nat.{_+_, _*_, _<_, _≤_};
+ghost use lib.ListN.{length};
+ghost use Rattle.field.specs.Mul.{Width};
+ghost use Rattle.steps.specs.Tape.{elements};
+ghost use Rattle.steps.specs.Machine.{Ready, Went};
+ghost use Rattle.field.specs.Polynomial.{exponents};
+ghost use Rattle.steps.specs.Loop.{each};
+ghost use Rattle.sbox.specs.Sbox.{sbox};
+ghost use Rattle.sbox.specs.Form.{basisSize};
+ghost use Rattle.sbox.specs.Polynomials.{basisIn, solutionIn};
+ghost use Rattle.sbox.specs.Figures.{sboxProducts, sboxDraws, sboxSteps};
+ghost use Rattle.sbox.specs.TableSteps as spec;
+ghost use Rattle.sbox.specs.TableCounts.{totalSteps, fillProducts, fillDraws, fillSteps};
+use crate::polynomial_rows::polynomials;
+use crate::power_rows::powers;
+use crate::product_rows::products;
+use crate::product_rows::totals;
+use crate::rows::put;
+use product::Masked;
+use steps::Counts;
+
+// All rows of the table, from row 0: k powers, h polynomials of the basis and h + 1 of the p, and h products.
+fn fill_rows(
+    width: u32,
+    k: usize,
+    h: usize,
+    s: usize,
+    rec: &[u8],
+    random: &[u8],
+    watch: &[u32],
+    values: &mut [u8],
+    t: &mut [u8; 252],
+    n: Counts,
+) -> Counts
+    requires { ⌜ Width width ⌝ }
+    requires { ⌜ (s ≤ 9) × (k ≤ 18) × (h ≤ 3) × (6 + (h + (h + 1)) * (k + 1) ≤ length (now rec)) ⌝ }
+    requires { ⌜ Ready (fillProducts width h) (fillDraws width h s) (fillSteps width k h s) n (elements width (now random)) (now watch) (now values) ⌝ }
+    ensures { λ w. ⌜ Went (fillProducts width h) (fillDraws width h s) (fillSteps width k h s) (elements width (now (random .entry))) (now (watch .entry))
+        (spec.fillRows width k h s (now (rec .entry)) (now (t .entry)))
+        n (now (values .entry)) (now (t .exit)) w (now (values .exit)) ⌝ }
+{
+    let n = powers(width, s, random, watch, &mut *values, &mut *t, n);
+    let count = h + (h + 1);
+    let n = polynomials(
+        width,
+        k,
+        s,
+        rec,
+        count,
+        random,
+        watch,
+        &mut *values,
+        &mut *t,
+        n,
+    );
+    products(
+        width,
+        s,
+        h,
+        k,
+        k + h,
+        k + count,
+        random,
+        watch,
+        values,
+        t,
+        n,
+    )
+}
+
+// The masked S-box with k powers and h products.
+fn evaluate(
+    width: u32,
+    k: usize,
+    h: usize,
+    s: usize,
+    rec: &[u8],
+    x: &[u8; 9],
+    random: &[u8],
+    watch: &[u32],
+    values: &mut [u8],
+    n: Counts,
+) -> Masked
+    requires { ⌜ Width width ⌝ }
+    requires { ⌜ (s ≤ 9) × (k ≤ 18) × (0 < h) × (h ≤ 3) × (6 + (h + (h + 1)) * (k + 1) ≤ length (now rec)) ⌝ }
+    requires { ⌜ Ready (fillProducts width h) (fillDraws width h s) (fillSteps width k h s + each (totalSteps h) s 0) n (elements width (now random)) (now watch) (now values) ⌝ }
+    ensures { λ w. ⌜ Went (fillProducts width h) (fillDraws width h s) (fillSteps width k h s + each (totalSteps h) s 0) (elements width (now (random .entry))) (now (watch .entry))
+        (spec.sboxRows width k h s (now (rec .entry)) (now (x .entry)))
+        n (now (values .entry)) (w .shares) (w .counts) (now (values .exit)) ⌝ }
+{
+    let mut t = [0u8; 252];
+    put(&mut t, 0, x);
+    let n = fill_rows(width, k, h, s, rec, random, watch, &mut *values, &mut t, n);
+    totals(width, s, h, k + (h + (h + 1)), random, watch, values, &t, n)
+}
+
+// The masked S-box of the sharing x, of s shares, by a record of the width.
+pub fn run(
+    width: u32,
+    s: usize,
+    rec: &[u8],
+    x: &[u8; 9],
+    random: &[u8],
+    watch: &[u32],
+    values: &mut [u8],
+    n: Counts,
+) -> Masked
+    requires { ⌜ Width width ⌝ }
+    requires { ⌜ (s ≤ 9) × (6 + (basisSize width + (basisSize width + 1)) * length (exponents width) ≤ length (now rec)) ⌝ }
+    requires { ⌜ Ready (sboxProducts width) (sboxDraws width s) (sboxSteps width s) n (elements width (now random)) (now watch) (now values) ⌝ }
+    ensures { λ w. ⌜ Went (sboxProducts width) (sboxDraws width s) (sboxSteps width s) (elements width (now (random .entry))) (now (watch .entry))
+        (sbox width s (basisIn width (now (rec .entry))) (solutionIn width (now (rec .entry))) (now (x .entry)))
+        n (now (values .entry)) (w .shares) (w .counts) (now (values .exit)) ⌝ }
+{
+    if width == 4 {
+        evaluate(4, 8, 1, s, rec, x, random, watch, values, n)
+    } else {
+        evaluate(6, 18, 3, s, rec, x, random, watch, values, n)
+    }
+}

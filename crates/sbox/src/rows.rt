@@ -1,0 +1,65 @@
+// The table of the S-box: 28 rows of nine bytes, a sharing in each, in the order in which the sharings are made.
+ghost use mathlib.Core.Path.{_≡_};
+ghost use Prim.Native.Nat.{_<_, _≤_};
+ghost use Rattle.field.specs.Mul.{Width};
+ghost use Rattle.steps.specs.Tape.{elements};
+ghost use Rattle.steps.specs.Machine.{Ready, Went};
+ghost use Rattle.sbox.specs.Table as table;
+ghost use Rattle.sbox.specs.TableSteps as spec;
+ghost use Rattle.sbox.specs.TableCounts.{productDraws, productSteps};
+use product::product;
+use steps::Counts;
+
+// The sharing c becomes row r.
+pub fn put(t: &mut [u8; 252], r: usize, c: &[u8; 9])
+    requires { ⌜ r < 28 ⌝ }
+    ensures { λ u. ⌜ now (t .exit) ≡ table.put (now (t .entry)) r (now (c .entry)) ⌝ }
+{
+    let mut i = 0;
+    while i < 9 {
+        t[9 * r + i] = c[i];
+        i += 1;
+    }
+}
+
+// Row r.
+pub fn row(t: &[u8; 252], r: usize) -> [u8; 9]
+    requires { ⌜ r < 28 ⌝ }
+    ensures { λ c. ⌜ c ≡ table.row (now (t .entry)) r ⌝ }
+{
+    let mut c = [0u8; 9];
+    let mut i = 0;
+    while i < 9 {
+        c[i] = t[9 * r + i];
+        i += 1;
+    }
+    c
+}
+
+// The masked product of rows x and y goes to row z.
+pub fn multiply_rows(
+    width: u32,
+    s: usize,
+    x: usize,
+    y: usize,
+    z: usize,
+    random: &[u8],
+    watch: &[u32],
+    values: &mut [u8],
+    t: &mut [u8; 252],
+    n: Counts,
+) -> Counts
+    requires { ⌜ Width width ⌝ }
+    requires { ⌜ (x < 28) × (y < 28) × (z < 28) × (s ≤ 9) ⌝ }
+    requires { ⌜ Ready 1 (productDraws s) (productSteps s) n (elements width (now random)) (now watch) (now values) ⌝ }
+    ensures { λ w. ⌜ Went 1 (productDraws s) (productSteps s) (elements width (now (random .entry))) (now (watch .entry))
+        (spec.multiplyRows width s x y z (now (t .entry)))
+        n (now (values .entry)) (now (t .exit)) w (now (values .exit)) ⌝ }
+{
+    let a = row(&*t, x);
+    let b = row(&*t, y);
+    let m = product(width, s, &a, &b, random, watch, values, n);
+    let c = m.shares;
+    put(t, z, &c);
+    m.counts
+}

@@ -1,0 +1,96 @@
+// The operation Watch S-box.
+ghost use mathlib.Core.Path.{_≡_};
+ghost use mathlib.Core.Bool.{_&&_};
+ghost use lib.Dec.{leb, eqb};
+ghost use lib.ListN.{length};
+ghost use Rattle.refusal.specs.Outcome.{done, Answered};
+ghost use Rattle.sbox.specs.Figures.{sboxSteps};
+ghost use Rattle.sbox.specs.Operations.{Callable, callCounts, testSteps, watchReport, watchOutcome, watchOutput};
+use crate::calling::call;
+use crate::checking::Tested;
+use crate::checking::call_tests;
+use crate::figures::step_count;
+use refusal::first_past;
+use steps::bytes_for;
+
+// The answer of Watch S-box: how many masked products, random bytes and steps it took.
+pub enum WatchAnswer {
+    Done {
+        products: usize,
+        random: usize,
+        steps: u32,
+    },
+    Refused {
+        number: u8,
+        place: usize,
+    },
+}
+
+// Whether a list of so many numbers has as many places for their values, and is not too long.
+fn list_fits(numbers: usize, places: usize) -> bool
+    ensures { λ r. ⌜ r ≡ (eqb numbers places && leb numbers 64) ⌝ }
+{
+    if numbers != places {
+        return false;
+    }
+    numbers <= 64
+}
+
+// The masked S-box under a watch: value k is what the step whose number stands at place k of the list records.
+// Refused: as S-box; 2 also for lengths of list and values that differ, or over 64 numbers; last 8, a number that is not a step's. Then `values` is unchanged.
+pub fn watch_sbox(
+    rec: &[u8],
+    s: u32,
+    shares: &[u8],
+    random: &[u8],
+    list: &[u32],
+    values: &mut [u8],
+) -> WatchAnswer
+    ensures { λ r. ⌜ Answered
+        (watchOutcome (now (rec .entry)) s (now (shares .entry)) (now (random .entry)) (now (list .entry)) (length (now (values .entry))))
+        (watchOutput (now (rec .entry)) s (now (shares .entry)) (now (random .entry)) (now (list .entry)))
+        (now (values .entry)) (watchReport r) (now (values .exit)) ⌝ }
+{
+    let fits = list_fits(list.len(), values.len());
+    let tested = call_tests(rec, s, shares, random, fits);
+    match tested {
+        Tested::Refused { number, place } => WatchAnswer::Refused { number, place },
+        Tested::Passed { width } => watch(width, s, rec, shares, random, list, values),
+    }
+}
+
+// The same where all tests but the last are passed.
+fn watch(
+    width: u32,
+    s: u32,
+    rec: &[u8],
+    shares: &[u8],
+    random: &[u8],
+    list: &[u32],
+    values: &mut [u8],
+) -> WatchAnswer
+    requires { ⌜ Callable width (now rec) s (now shares) (now random) ⌝ }
+    requires { ⌜ length (now list) ≡ length (now values) ⌝ }
+    ensures { λ r. ⌜ Answered
+        (testSteps (sboxSteps width s) (now (list .entry)) (done (callCounts (now (rec .entry)) s (now (shares .entry)) (now (random .entry)))))
+        (watchOutput (now (rec .entry)) s (now (shares .entry)) (now (random .entry)) (now (list .entry)))
+        (now (values .entry)) (watchReport r) (now (values .exit)) ⌝ }
+{
+    let total = step_count(width, s);
+    let past = first_past(total, list);
+    if past < list.len() {
+        return WatchAnswer::Refused {
+            number: 8,
+            place: past,
+        };
+    }
+    let count = s as usize;
+    let m = call(width, count, rec, shares, random, list, values);
+    let n = m.counts;
+    let drawn = bytes_for(width, n.random);
+    WatchAnswer::Done {
+        products: n.products,
+        random: drawn,
+        steps: n.steps,
+    }
+}

@@ -6,11 +6,14 @@ ghost use Rattle.steps.specs.Operations.{splitOutcome, splitShares, joinOutcome
 ghost use Rattle.decomposition.specs.Record.{readOutcome};
 ghost use Rattle.decomposition.specs.Check.{checkOutcome};
 ghost use Rattle.decomposition.specs.Fit.{Fits, HouseFits};
+ghost use Rattle.sbox.specs.Operations.{sboxOutcome, sboxOutput, watchOutcome, watchOutput};
 ghost use Rattle.capi.specs.Words.{words, Reported, ReportedBy};
 use decomposition::CheckAnswer;
 use decomposition::FitAnswer;
 use decomposition::HouseFitAnswer;
 use decomposition::ReadAnswer;
+use sbox::substituting::SboxAnswer;
+use sbox::watching::WatchAnswer;
 use steps::joining::JoinAnswer;
 use steps::splitting::SplitAnswer;
 
@@ -79,6 +82,57 @@ pub extern "C" fn ll_house_fit(
         HouseFitAnswer::Refused { number, place } => {
             put(answer, number as u64, place as u64, 0, 0)
         }
+    }
+}
+
+#[no_mangle]
+pub extern "C" fn ll_sbox(
+    record: &[u8],
+    s: u32,
+    shares: &[u8],
+    random: &[u8],
+    out: &mut [u8],
+    answer: &mut [u64; 4],
+)
+    ensures { λ u. ⌜ Reported
+        (sboxOutcome (now («record» .entry)) s (now (shares .entry)) (now (random .entry)) (length (now (out .entry))))
+        (sboxOutput (now («record» .entry)) s (now (shares .entry)) (now (random .entry)))
+        (now (out .entry)) (now (out .exit)) (now (answer .exit)) ⌝ }
+{
+    let a = sbox::substituting::sbox(record, s, shares, random, out);
+    match a {
+        SboxAnswer::Done {
+            products,
+            random,
+            steps,
+        } => { put(answer, 0, products as u64, random as u64, steps as u64) }
+        SboxAnswer::Refused { number, place } => { put(answer, number as u64, place as u64, 0, 0) }
+    }
+}
+
+#[no_mangle]
+pub extern "C" fn ll_sbox_watch(
+    record: &[u8],
+    s: u32,
+    shares: &[u8],
+    random: &[u8],
+    list: &[u32],
+    values: &mut [u8],
+    answer: &mut [u64; 4],
+)
+    ensures { λ u. ⌜ Reported
+        (watchOutcome (now («record» .entry)) s (now (shares .entry)) (now (random .entry)) (now (list .entry)) (length (now (values .entry))))
+        (watchOutput (now («record» .entry)) s (now (shares .entry)) (now (random .entry)) (now (list .entry)))
+        (now (values .entry)) (now (values .exit)) (now (answer .exit)) ⌝ }
+{
+    let a = sbox::watching::watch_sbox(record, s, shares, random, list, values);
+    match a {
+        WatchAnswer::Done {
+            products,
+            random,
+            steps,
+        } => { put(answer, 0, products as u64, random as u64, steps as u64) }
+        WatchAnswer::Refused { number, place } => { put(answer, number as u64, place as u64, 0, 0) }
     }
 }
 

@@ -1,0 +1,109 @@
+// The C interface of Lemonludo: masked S-boxes and masked PRESENT-80 over decompositions. For x86-64 Linux, with libcapi.a
+// (interface/README.md says how to build and link it; docs/FORMATS.md has the layout of records and sharings and the numbering of steps).
+//
+// Slices. A slice is a pointer and the number of its elements. What is lent for writing (not const) must overlap nothing else that is
+// passed in the same call; slices that are only read may overlap each other. An empty slice may be NULL: nothing is read or written
+// through its pointer. `answer` is never NULL.
+//
+// The answer. Each call writes all four words:
+//   answer[0]  0 for done, else the number of the refusal
+//   answer[1]  after a refusal its place, 0 unless one is named below; after done the width (ll_read),
+//              or how many products were taken (ll_sbox, ll_sbox_watch, ll_block, ll_block_watch)
+//   answer[2]  after done how many random bytes were taken (the same four)
+//   answer[3]  after done how many steps were taken (the same four)
+// A word not in use is 0.
+//
+// Refusals. Each function lists its tests in the order in which they run; the first that fails is the answer, and nothing else is
+// refused. A refusal leaves everything lent for writing as it was, but for the work area of ll_fit and ll_house_fit after a 4. The place
+// of a 3 outside a record is that of the first such entry, counted through the slices named.
+//
+// Shares. s is 1 to 9. A sharing lies share 0 first; the value is the sum (exclusive or) of its shares. Masks and random bytes come from
+// the caller, fresh for each call and uniform: the library makes none.
+//
+// The functions keep nothing between calls, allocate nothing and call nothing but C's memory functions.
+#ifndef LEMONLUDO_H
+#define LEMONLUDO_H
+
+#include <stddef.h>
+#include <stdint.h>
+
+#ifdef __cplusplus
+extern "C" {
+#endif
+
+// What stands in answer[0].
+enum {
+    LL_DONE = 0,
+    LL_WIDTH = 1,       // a width that is not 4 or 6; a record of width 6 for a block
+    LL_LENGTH = 2,      // a length
+    LL_TOO_LARGE = 3,   // an entry that is no element of the field
+    LL_NO_FIT = 4,      // no decomposition over this basis meets the table
+    LL_MARK = 5,        // the mark or the version of a record
+    LL_OTHER_TABLE = 6, // the record stands for another table
+    LL_SHARE_COUNT = 7, // a share count that is not 1 to 9
+    LL_NO_STEP = 8      // a step number that is not below the number of steps
+};
+
+// Read: tests a record and hands back its width n, 4 or 6.
+// Refuses: 2 under 6 bytes; 5 wrong mark or version; 1 width not 4 or 6; 2 length not 33 (n = 4) or 139 (n = 6);
+// 3 a coefficient not below 2^n (place: its offset in the record).
+void ll_read(const uint8_t *record, size_t record_len, uint64_t answer[4]);
+
+// Check: whether the record's form equals the table at all 2^n inputs.
+// Refuses: as ll_read; 2 table not of 2^n bytes; 3 an entry not below 2^n (table); 6 form and table differ (place: the first input where).
+void ll_check(const uint8_t *record, size_t record_len, const uint8_t *table, size_t table_len, uint64_t answer[4]);
+
+// Fit: writes the record that decomposes the table over the basis q1 to q(t-1).
+// At width 4: table 16 bytes, basis 9, work 448, record 33. At width 6: table 64, basis 57, work 6,144, record 139.
+// Refuses: 1 width not 4 or 6; 2 any length wrong; 3 an entry not below 2^n (table, then basis); 4 no p meets the table.
+// Work may hold anything; it is all zero after done and after 4, untouched after 1, 2 and 3.
+void ll_fit(uint32_t width, const uint8_t *table, size_t table_len, const uint8_t *basis, size_t basis_len,
+    uint8_t *work, size_t work_len, uint8_t *record, size_t record_len, uint64_t answer[4]);
+
+// House fit: Fit at width 4 over the house basis q1 = x + x^2 + x^12.
+// Refuses: 2, 3, 4 as ll_fit.
+void ll_house_fit(const uint8_t *table, size_t table_len, uint8_t *work, size_t work_len,
+    uint8_t *record, size_t record_len, uint64_t answer[4]);
+
+// S-box: the masked S-box that the record stands for, on an element in s shares. Shares and out have s bytes; random has s(s-1) bytes at
+// width 4 and 5s(s-1)/2 at width 6, an element each. Hands back products, random bytes and steps.
+// Refuses: as ll_read; 7 s not 1 to 9; 2 any length wrong; 3 an entry not below 2^n (shares, then random).
+void ll_sbox(const uint8_t *record, size_t record_len, uint32_t s, const uint8_t *shares, size_t shares_len,
+    const uint8_t *random, size_t random_len, uint8_t *out, size_t out_len, uint64_t answer[4]);
+
+// Watch S-box: as ll_sbox, but in place of the result it writes, for each step number of the list, what that step records.
+// The list has at most 64 numbers, in any order, repeats allowed, and may be empty; values has as many bytes.
+// Refuses: as ll_sbox, with 2 also for a list over 64 numbers or values of another length; last, 8 a step number that is not below the
+// number of steps (place: the first in the list).
+void ll_sbox_watch(const uint8_t *record, size_t record_len, uint32_t s, const uint8_t *shares, size_t shares_len,
+    const uint8_t *random, size_t random_len, const uint32_t *list, size_t list_len,
+    uint8_t *values, size_t values_len, uint64_t answer[4]);
+
+// Block: masked PRESENT-80 of one block. Key shares have 10s bytes, block shares and out 8s, random 527s(s-1), an element below 16 each.
+// Hands back products, random bytes and steps.
+// Refuses: as ll_read; 1 width 6; 6 not PRESENT's table; 7 s not 1 to 9; 2 any length wrong; 3 an entry not below 16 (random).
+void ll_block(const uint8_t *record, size_t record_len, uint32_t s, const uint8_t *key_shares, size_t key_shares_len,
+    const uint8_t *block_shares, size_t block_shares_len, const uint8_t *random, size_t random_len,
+    uint8_t *out, size_t out_len, uint64_t answer[4]);
+
+// Watch block: as ll_block, with list and values as in ll_sbox_watch.
+// Refuses: as ll_block, with 2 also for a list over 64 numbers or values of another length; last, 8 as in ll_sbox_watch.
+void ll_block_watch(const uint8_t *record, size_t record_len, uint32_t s, const uint8_t *key_shares, size_t key_shares_len,
+    const uint8_t *block_shares, size_t block_shares_len, const uint8_t *random, size_t random_len,
+    const uint32_t *list, size_t list_len, uint8_t *values, size_t values_len, uint64_t answer[4]);
+
+// Split: writes a value of 1 to 16 bytes in s shares. Share 0 is the value plus all masks, the rest are the masks: with a value of n
+// bytes masks has n(s-1) bytes and out ns.
+// Refuses: 7 s not 1 to 9; 2 value not of 1 to 16 bytes, or another length wrong.
+void ll_split(const uint8_t *value, size_t value_len, uint32_t s, const uint8_t *masks, size_t masks_len,
+    uint8_t *out, size_t out_len, uint64_t answer[4]);
+
+// Join: writes the sum of s shares. Out has the value's length n, 1 to 16 bytes; shares has ns.
+// Refuses: 7 s not 1 to 9; 2 out not of 1 to 16 bytes, or shares of another length.
+void ll_join(const uint8_t *shares, size_t shares_len, uint32_t s, uint8_t *out, size_t out_len, uint64_t answer[4]);
+
+#ifdef __cplusplus
+}
+#endif
+
+#endif

@@ -1,0 +1,410 @@
+//! Calls every function of the C interface from Rust and compares the answer, and what is written, with what is expected.
+mod lemonludo;
+
+use lemonludo::{self as ll, raw, Answer};
+use std::ptr::{null, null_mut};
+
+const FILL: u8 = 0xee;
+
+const HOUSE_BASIS: [u8; 9] = [0, 1, 1, 0, 0, 0, 0, 1, 0];
+const PRESENT_TABLE: [u8; 16] = [12, 5, 6, 11, 9, 0, 10, 13, 3, 14, 15, 8, 4, 7, 1, 2];
+
+/// The record of PRESENT's table over the house basis.
+const PRESENT_RECORD: [u8; 33] = [
+    b'D', b'C', b'P', 0, 1, 4, 0, 1, 1, 0, 0, 0, 0, 1, 0, // mark, version, width, basis
+    12, 3, 3, 13, 7, 0, 4, 14, 14, 12, 1, 8, 13, 3, 3, 15, 0, 0,
+];
+
+/// The record of the identity over a zero basis.
+fn identity_record(width: u8) -> Vec<u8> {
+    let (length, place) = if width == 4 { (33, 25) } else { (139, 121) };
+    let mut record = vec![0; length];
+    record[..6].copy_from_slice(&[b'D', b'C', b'P', 0, 1, width]);
+    record[place] = 1;
+    record
+}
+
+fn identity_table(width: u8) -> Vec<u8> {
+    (0..1 << width).collect()
+}
+
+fn with(bytes: &[u8], place: usize, value: u8) -> Vec<u8> {
+    let mut changed = bytes.to_vec();
+    changed[place] = value;
+    changed
+}
+
+fn random_elements(count: usize) -> Vec<u8> {
+    (0..count).map(|i| ((7 * i + 3) % 16) as u8).collect()
+}
+
+/// Share 0 is the value plus the masks; the rest are the masks.
+fn share(value: &[u8], s: usize) -> Vec<u8> {
+    let n = value.len();
+    let masks: Vec<u8> = (0..n * (s - 1)).map(|i| (37 * i + 11) as u8).collect();
+    let mut shares = value.to_vec();
+    masks.iter().enumerate().for_each(|(i, mask)| shares[i % n] ^= mask);
+    shares.extend(masks);
+    shares
+}
+
+fn add_up(shares: &[u8], s: usize) -> Vec<u8> {
+    let n = shares.len() / s;
+    (0..n).map(|i| (0..s).fold(0, |sum, k| sum ^ shares[k * n + i])).collect()
+}
+
+/// Nibble k of eight bytes, nibble 0 the lowest.
+fn nibble(eight: &[u8], k: usize) -> u8 {
+    eight[7 - k / 2] >> (4 * (k % 2)) & 15
+}
+
+fn done(first: u64, second: u64, third: u64) -> Answer {
+    [0, first, second, third]
+}
+
+fn refused(number: u64, place: u64) -> Answer {
+    [number, place, 0, 0]
+}
+
+/// Counts calls and failures of one function.
+#[derive(Default)]
+struct Calls {
+    made: usize,
+    failed: usize,
+}
+
+impl Calls {
+    fn same<T: PartialEq + std::fmt::Debug>(&mut self, what: &str, got: T, expected: T) {
+        if got != expected {
+            self.failed += 1;
+            println!("  FAILED {what}: {got:?}, expected {expected:?}");
+        }
+    }
+
+    fn answer(&mut self, what: &str, got: Answer, expected: Answer) {
+        self.made += 1;
+        self.same(what, got, expected);
+    }
+
+    /// A call with an output of this length, which has to be refused and leave the output as it was.
+    fn refuses(&mut self, what: &str, length: usize, number: u64, place: u64, call: impl FnOnce(&mut [u8]) -> Answer) {
+        let mut out = vec![FILL; length];
+        let answer = call(&mut out);
+        self.answer(what, answer, refused(number, place));
+        self.same(what, out, vec![FILL; length]);
+    }
+
+    /// A call that is done and fills an output of this length, which is handed back.
+    fn fills(&mut self, what: &str, length: usize, counts: Answer, call: impl FnOnce(&mut [u8]) -> Answer) -> Vec<u8> {
+        let mut out = vec![FILL; length];
+        let answer = call(&mut out);
+        self.answer(what, answer, counts);
+        out
+    }
+
+    /// Each of the slices in turn one entry short, one entry long and empty: refused with 2.
+    fn wrong_lengths<const N: usize>(&mut self, slices: [&[u8]; N], length: usize, call: impl Fn([&[u8]; N], &mut [u8]) -> Answer) {
+        for k in 0..N {
+            let longer = [slices[k], &[0]].concat();
+            for changed in [&longer[..slices[k].len() - 1], &longer, &[]] {
+                let mut given = slices;
+                given[k] = changed;
+                self.refuses(&format!("slice {k} of {} bytes", changed.len()), length, 2, 0, |out| call(given, out));
+            }
+        }
+        for changed in [length - 1, length + 1, 0] {
+            self.refuses(&format!("output of {changed} bytes"), changed, 2, 0, |out| call(slices, out));
+        }
+    }
+
+    /// Records that Read refuses.
+    fn wrong_records(&mut self, length: usize, call: impl Fn(&[u8], &mut [u8]) -> Answer) {
+        let record = &PRESENT_RECORD;
+        self.refuses("record of 5 bytes", length, 2, 0, |out| call(&record[..5], out));
+        self.refuses("wrong mark", length, 5, 0, |out| call(&with(record, 1, b'c'), out));
+        self.refuses("version 2", length, 5, 0, |out| call(&with(record, 4, 2), out));
+        self.refuses("width 5", length, 1, 0, |out| call(&with(record, 5, 5), out));
+        self.refuses("width 6, length of 4", length, 2, 0, |out| call(&with(record, 5, 6), out));
+        self.refuses("coefficient 16", length, 3, 20, |out| call(&with(record, 20, 16), out));
+    }
+
+    fn wrong_share_counts(&mut self, length: usize, call: impl Fn(u32, &mut [u8]) -> Answer) {
+        for s in [0, 10, 259, u32::MAX] {
+            self.refuses(&format!("{s} shares"), length, 7, 0, |out| call(s, out));
+        }
+    }
+}
+
+/// A call through the declarations, for slices that are NULL.
+fn by_hand(call: impl FnOnce(&mut Answer)) -> Answer {
+    let mut answer = [u64::MAX; 4];
+    call(&mut answer);
+    answer
+}
+
+fn read(c: &mut Calls) {
+    c.answer("width 4", ll::read(&PRESENT_RECORD), done(4, 0, 0));
+    c.answer("width 6", ll::read(&identity_record(6)), done(6, 0, 0));
+    c.answer("coefficient 15", ll::read(&with(&PRESENT_RECORD, 20, 15)), done(4, 0, 0));
+    c.wrong_records(0, |record, _| ll::read(record));
+    for length in [0, 32, 138] {
+        c.answer("a wrong length", ll::read(&identity_record(6)[..length]), refused(2, 0));
+    }
+    c.answer("NULL", by_hand(|a| unsafe { raw::ll_read(null(), 0, a) }), refused(2, 0));
+}
+
+fn check(c: &mut Calls) {
+    let (record, table) = (&PRESENT_RECORD, &PRESENT_TABLE);
+    c.answer("PRESENT's table", ll::check(record, table), done(0, 0, 0));
+    c.answer("identity of width 6", ll::check(&identity_record(6), &identity_table(6)), done(0, 0, 0));
+    c.wrong_records(0, |record, _| ll::check(record, table));
+    for length in [0, 15] {
+        c.answer("a short table", ll::check(record, &table[..length]), refused(2, 0));
+    }
+    c.answer("entry 16", ll::check(record, &with(table, 7, 16)), refused(3, 7));
+    c.answer("last entry differs", ll::check(record, &with(table, 15, 3)), refused(6, 15));
+    c.answer("NULL table", by_hand(|a| unsafe { raw::ll_check(record.as_ptr(), 33, null(), 0, a) }), refused(2, 0));
+}
+
+fn fit(c: &mut Calls) {
+    let mut work = [FILL; 448];
+    let record = c.fills("PRESENT's table", 33, done(0, 0, 0), |out| ll::fit(4, &PRESENT_TABLE, &HOUSE_BASIS, &mut work, out));
+    c.same("PRESENT's record", &record[..], &PRESENT_RECORD);
+    c.same("work after done", work, [0; 448]);
+
+    let mut wide = [FILL; 6144];
+    let record = c.fills("identity of width 6", 139, done(0, 0, 0), |out| ll::fit(6, &identity_table(6), &[0; 57], &mut wide, out));
+    c.same("identity's record", record, identity_record(6));
+    c.same("wide work after done", wide, [0; 6144]);
+
+    work = [FILL; 448];
+    let unit = with(&[0; 16], 0, 1);
+    c.refuses("1, 0 .. 0 over a zero basis", 33, 4, 0, |out| ll::fit(4, &unit, &[0; 9], &mut work, out));
+    c.same("work after 4", work, [0; 448]);
+
+    work = [FILL; 448];
+    for width in [0, 5, 260, u32::MAX] {
+        c.refuses("another width", 33, 1, 0, |out| ll::fit(width, &PRESENT_TABLE, &HOUSE_BASIS, &mut work, out));
+    }
+    c.refuses("entry in the basis", 33, 3, 20, |out| ll::fit(4, &PRESENT_TABLE, &with(&HOUSE_BASIS, 4, 16), &mut work, out));
+    c.refuses("entry in the table", 33, 3, 3, |out| ll::fit(4, &with(&PRESENT_TABLE, 3, 16), &HOUSE_BASIS, &mut work, out));
+    for length in [0, 447] {
+        c.refuses("short work", 33, 2, 0, |out| ll::fit(4, &PRESENT_TABLE, &HOUSE_BASIS, &mut work[..length], out));
+    }
+    c.same("work after refusals", work, [FILL; 448]);
+    c.wrong_lengths([&PRESENT_TABLE, &HOUSE_BASIS], 33, |[table, basis], out| ll::fit(4, table, basis, &mut [FILL; 448], out));
+    let answer = by_hand(|a| unsafe { raw::ll_fit(4, null(), 0, null(), 0, null_mut(), 0, null_mut(), 0, a) });
+    c.answer("NULL", answer, refused(2, 0));
+}
+
+fn house_fit(c: &mut Calls) {
+    let mut work = [FILL; 448];
+    let record = c.fills("PRESENT's table", 33, done(0, 0, 0), |out| ll::house_fit(&PRESENT_TABLE, &mut work, out));
+    c.same("PRESENT's record", &record[..], &PRESENT_RECORD);
+    c.same("work after done", work, [0; 448]);
+    c.answer("Check of it", ll::check(&record, &PRESENT_TABLE), done(0, 0, 0));
+    let record = c.fills("zero table", 33, done(0, 0, 0), |out| ll::house_fit(&[0; 16], &mut work, out));
+    c.same("zero p", &record[15..], &[0; 18]);
+
+    work = [FILL; 448];
+    c.refuses("entry 16", 33, 3, 15, |out| ll::house_fit(&with(&PRESENT_TABLE, 15, 16), &mut work, out));
+    c.refuses("short work", 33, 2, 0, |out| ll::house_fit(&PRESENT_TABLE, &mut work[..447], out));
+    c.same("work after refusals", work, [FILL; 448]);
+    c.wrong_lengths([&PRESENT_TABLE], 33, |[table], out| ll::house_fit(table, &mut [FILL; 448], out));
+    let answer = by_hand(|a| unsafe { raw::ll_house_fit(null(), 0, null_mut(), 0, null_mut(), 0, a) });
+    c.answer("NULL", answer, refused(2, 0));
+}
+
+/// An element in three shares, random elements, the shares that the S-box gives, and the counts.
+const SHARES: [u8; 3] = [2, 9, 15];
+const RANDOM: [u8; 6] = [1, 2, 3, 4, 5, 6];
+const SBOX_OUT: [u8; 3] = [14, 5, 2];
+const SBOX_COUNTS: Answer = [0, 2, 6, 213];
+
+fn sbox(c: &mut Calls) {
+    let out = c.fills("three shares", 3, SBOX_COUNTS, |out| ll::sbox(&PRESENT_RECORD, 3, &SHARES, &RANDOM, out));
+    c.same("three shares", &out[..], &SBOX_OUT);
+    for x in 0..16 {
+        let shares = [x ^ 9 ^ 15, 9, 15];
+        let out = c.fills("table", 3, SBOX_COUNTS, |out| ll::sbox(&PRESENT_RECORD, 3, &shares, &RANDOM, out));
+        c.same("table", add_up(&out, 3)[0], PRESENT_TABLE[x as usize]);
+    }
+    let out = c.fills("width 6", 3, done(5, 15, 930), |out| ll::sbox(&identity_record(6), 3, &[61, 62, 63], &[60; 15], out));
+    c.same("width 6", add_up(&out, 3)[0], 61 ^ 62 ^ 63);
+    let out = c.fills("one share", 1, done(2, 0, 57), |out| ll::sbox(&PRESENT_RECORD, 1, &[4], &[], out));
+    c.same("one share", out[0], PRESENT_TABLE[4]);
+
+    c.wrong_records(3, |record, out| ll::sbox(record, 3, &SHARES, &RANDOM, out));
+    c.wrong_share_counts(3, |s, out| ll::sbox(&PRESENT_RECORD, s, &SHARES, &RANDOM, out));
+    c.wrong_lengths([&PRESENT_RECORD, &SHARES, &RANDOM], 3, |[record, shares, random], out| ll::sbox(record, 3, shares, random, out));
+    c.refuses("share 16", 3, 3, 1, |out| ll::sbox(&PRESENT_RECORD, 3, &with(&SHARES, 1, 16), &with(&RANDOM, 5, 16), out));
+    c.refuses("random 16", 3, 3, 8, |out| ll::sbox(&PRESENT_RECORD, 3, &SHARES, &with(&RANDOM, 5, 16), out));
+    let mut out = [FILL];
+    let answer = by_hand(|a| unsafe { raw::ll_sbox(PRESENT_RECORD.as_ptr(), 33, 1, [4].as_ptr(), 1, null(), 0, out.as_mut_ptr(), 1, a) });
+    c.answer("one share, random NULL", answer, done(2, 0, 57));
+    c.same("one share, random NULL", out[0], PRESENT_TABLE[4]);
+}
+
+fn sbox_watch(c: &mut Calls) {
+    // The squares of the shares, the random elements of the two masked products, the result, and a repeat.
+    let list = [0, 1, 2, 12, 19, 26, 189, 196, 203, 212, 211, 210, 0];
+    let values = [4, 13, 10, 1, 2, 3, 4, 5, 6, 2, 5, 14, 4];
+    let watch = |list: &[u32], out: &mut [u8]| ll::sbox_watch(&PRESENT_RECORD, 3, &SHARES, &RANDOM, list, out);
+    let out = c.fills("thirteen steps", 13, SBOX_COUNTS, |out| watch(&list, out));
+    c.same("thirteen steps", &out[..], &values);
+    let out = c.fills("64 steps", 64, SBOX_COUNTS, |out| watch(&[212; 64], out));
+    c.same("64 steps", out, vec![2; 64]);
+    c.fills("no steps", 0, SBOX_COUNTS, |out| watch(&[], out));
+
+    c.wrong_records(13, |record, out| ll::sbox_watch(record, 3, &SHARES, &RANDOM, &list, out));
+    c.wrong_share_counts(13, |s, out| ll::sbox_watch(&PRESENT_RECORD, s, &SHARES, &RANDOM, &list, out));
+    c.wrong_lengths([&PRESENT_RECORD, &SHARES, &RANDOM], 13, |[record, shares, random], out| {
+        ll::sbox_watch(record, 3, shares, random, &list, out)
+    });
+    c.refuses("empty list", 13, 2, 0, |out| watch(&[], out));
+    c.refuses("65 steps", 65, 2, 0, |out| watch(&[0; 65], out));
+    c.refuses("random 16", 13, 3, 8, |out| ll::sbox_watch(&PRESENT_RECORD, 3, &SHARES, &with(&RANDOM, 5, 16), &list, out));
+    c.refuses("step 213", 3, 8, 1, |out| watch(&[212, 213, u32::MAX], out));
+    let answer = by_hand(|a| unsafe {
+        raw::ll_sbox_watch(PRESENT_RECORD.as_ptr(), 33, 3, SHARES.as_ptr(), 3, RANDOM.as_ptr(), 6, null(), 0, null_mut(), 0, a)
+    });
+    c.answer("NULL list", answer, SBOX_COUNTS);
+}
+
+/// The published vectors: each byte of the key, each byte of the block, the ciphertext.
+const VECTORS: [(u8, u8, u64); 4] = [
+    (0x00, 0x00, 0x5579c1387b228445),
+    (0xff, 0x00, 0xe72c46c0f5945049),
+    (0x00, 0xff, 0xa112ffc72f68417b),
+    (0xff, 0xff, 0x3333dcd3213210d2),
+];
+const BLOCK_COUNTS: Answer = [0, 1054, 3162, 117197];
+
+fn block(c: &mut Calls) {
+    let random = random_elements(3162);
+    for (key, block, ciphertext) in VECTORS {
+        let (key, block) = (share(&[key; 10], 3), share(&[block; 8], 3));
+        let out = c.fills("vector", 24, BLOCK_COUNTS, |out| ll::block(&PRESENT_RECORD, 3, &key, &block, &random, out));
+        c.same("vector", add_up(&out, 3), ciphertext.to_be_bytes().to_vec());
+    }
+    let out = c.fills("one share", 8, done(1054, 0, 31729), |out| ll::block(&PRESENT_RECORD, 1, &[0; 10], &[0; 8], &[], out));
+    c.same("one share", out, VECTORS[0].2.to_be_bytes().to_vec());
+
+    let (key, block) = (share(&[0; 10], 3), share(&[0; 8], 3));
+    let with_record = |record: &[u8], out: &mut [u8]| ll::block(record, 3, &key, &block, &random, out);
+    c.wrong_records(24, with_record);
+    c.refuses("width 6", 24, 1, 0, |out| with_record(&identity_record(6), out));
+    c.refuses("another table", 24, 6, 0, |out| with_record(&with(&PRESENT_RECORD, 25, 0), out));
+    c.wrong_share_counts(24, |s, out| ll::block(&PRESENT_RECORD, s, &key, &block, &random, out));
+    c.wrong_lengths([&PRESENT_RECORD, &key, &block, &random], 24, |[record, key, block, random], out| {
+        ll::block(record, 3, key, block, random, out)
+    });
+    c.refuses("random 16", 24, 3, 3161, |out| ll::block(&PRESENT_RECORD, 3, &key, &block, &with(&random, 3161, 16), out));
+    let mut out = [FILL; 8];
+    let answer = by_hand(|a| unsafe {
+        raw::ll_block(PRESENT_RECORD.as_ptr(), 33, 1, [0; 10].as_ptr(), 10, [0; 8].as_ptr(), 8, null(), 0, out.as_mut_ptr(), 8, a)
+    });
+    c.answer("one share, random NULL", answer, done(1054, 0, 31729));
+    c.same("one share, random NULL", out, VECTORS[0].2.to_be_bytes());
+}
+
+fn block_watch(c: &mut Calls) {
+    let (key, block, random) = (share(&[0xff; 10], 3), share(&[0; 8], 3), random_elements(3162));
+    let watch = |list: &[u32], out: &mut [u8]| ll::block_watch(&PRESENT_RECORD, 3, &key, &block, &random, list, out);
+
+    // The last 48 steps are the nibbles of the result, share by share; the first 16 those of share 0 after the first key addition.
+    let list: Vec<u32> = (117149..117197).chain(0..16).collect();
+    let values = c.fills("64 steps", 64, BLOCK_COUNTS, |out| watch(&list, out));
+    let joined: Vec<u8> = add_up(&values[..48], 3);
+    let ciphertext = VECTORS[1].2.to_be_bytes();
+    c.same("the last steps", joined, (0..16).map(|k| nibble(&ciphertext, k)).collect());
+    c.same("the first steps", values[48..].to_vec(), (0..16).map(|k| nibble(&block, k) ^ nibble(&key, k)).collect());
+    c.fills("no steps", 0, BLOCK_COUNTS, |out| watch(&[], out));
+
+    let with_record = |record: &[u8], out: &mut [u8]| ll::block_watch(record, 3, &key, &block, &random, &list, out);
+    c.wrong_records(64, with_record);
+    c.refuses("width 6", 64, 1, 0, |out| with_record(&identity_record(6), out));
+    c.refuses("another table", 64, 6, 0, |out| with_record(&with(&PRESENT_RECORD, 25, 0), out));
+    c.wrong_share_counts(64, |s, out| ll::block_watch(&PRESENT_RECORD, s, &key, &block, &random, &list, out));
+    c.wrong_lengths([&PRESENT_RECORD, &key, &block, &random], 64, |[record, key, block, random], out| {
+        ll::block_watch(record, 3, key, block, random, &list, out)
+    });
+    c.refuses("empty list", 64, 2, 0, |out| watch(&[], out));
+    c.refuses("65 steps", 65, 2, 0, |out| watch(&[0; 65], out));
+    c.refuses("random 16", 64, 3, 3161, |out| ll::block_watch(&PRESENT_RECORD, 3, &key, &block, &with(&random, 3161, 16), &list, out));
+    c.refuses("step 117197", 3, 8, 1, |out| watch(&[117196, 117197, u32::MAX], out));
+    let answer = by_hand(|a| unsafe {
+        raw::ll_block_watch(PRESENT_RECORD.as_ptr(), 33, 3, key.as_ptr(), 30, block.as_ptr(), 24, random.as_ptr(), 3162,
+            null(), 0, null_mut(), 0, a)
+    });
+    c.answer("NULL list", answer, BLOCK_COUNTS);
+}
+
+fn split(c: &mut Calls) {
+    let out = c.fills("7 with masks 1, 2", 3, done(0, 0, 0), |out| ll::split(&[7], 3, &[1, 2], out));
+    c.same("7 with masks 1, 2", out, vec![4, 1, 2]);
+    let out = c.fills("one share", 1, done(0, 0, 0), |out| ll::split(&[7], 1, &[], out));
+    c.same("one share", out, vec![7]);
+    let shares = share(&[0x5a; 16], 9);
+    let out = c.fills("16 bytes in nine shares", 144, done(0, 0, 0), |out| ll::split(&[0x5a; 16], 9, &shares[16..], out));
+    c.same("16 bytes in nine shares", out, shares);
+
+    c.wrong_share_counts(6, |s, out| ll::split(&[7, 8], s, &[1, 2, 3, 4], out));
+    c.wrong_lengths([&[7, 8], &[1, 2, 3, 4]], 6, |[value, masks], out| ll::split(value, 3, masks, out));
+    c.refuses("17 bytes", 51, 2, 0, |out| ll::split(&[0; 17], 3, &[0; 34], out));
+    let answer = by_hand(|a| unsafe { raw::ll_split(null(), 0, 3, null(), 0, null_mut(), 0, a) });
+    c.answer("NULL", answer, refused(2, 0));
+    let mut out = [FILL];
+    let answer = by_hand(|a| unsafe { raw::ll_split([7].as_ptr(), 1, 1, null(), 0, out.as_mut_ptr(), 1, a) });
+    c.answer("one share, masks NULL", answer, done(0, 0, 0));
+    c.same("one share, masks NULL", out, [7]);
+}
+
+fn join(c: &mut Calls) {
+    let out = c.fills("4, 1, 2", 1, done(0, 0, 0), |out| ll::join(&[4, 1, 2], 3, out));
+    c.same("4, 1, 2", out, vec![7]);
+    let out = c.fills("16 bytes in nine shares", 16, done(0, 0, 0), |out| ll::join(&share(&[0x5a; 16], 9), 9, out));
+    c.same("16 bytes in nine shares", out, vec![0x5a; 16]);
+
+    c.wrong_share_counts(2, |s, out| ll::join(&[1, 2, 3, 4, 5, 6], s, out));
+    c.wrong_lengths([&[1, 2, 3, 4, 5, 6]], 2, |[shares], out| ll::join(shares, 3, out));
+    c.refuses("17 bytes", 17, 2, 0, |out| ll::join(&[0; 51], 3, out));
+    let answer = by_hand(|a| unsafe { raw::ll_join(null(), 0, 3, null_mut(), 0, a) });
+    c.answer("NULL", answer, refused(2, 0));
+}
+
+/// Makes the calls of one function and says how they went.
+fn report(name: &str, calls: fn(&mut Calls)) -> usize {
+    let mut c = Calls::default();
+    calls(&mut c);
+    let verdict = if c.failed == 0 { "as expected" } else { "NOT as expected" };
+    println!("  {name:16}{:3} calls {verdict}", c.made);
+    c.failed
+}
+
+fn main() {
+    let mut failed = 0;
+    failed += report("ll_read", read);
+    failed += report("ll_check", check);
+    failed += report("ll_fit", fit);
+    failed += report("ll_house_fit", house_fit);
+    #[cfg(not(lacks_ll_sbox))] // the script says what the archive lacks
+    {
+        failed += report("ll_sbox", sbox);
+    }
+    #[cfg(not(lacks_ll_sbox_watch))]
+    {
+        failed += report("ll_sbox_watch", sbox_watch);
+    }
+    #[cfg(not(lacks_ll_block))]
+    {
+        failed += report("ll_block", block);
+    }
+    #[cfg(not(lacks_ll_block_watch))]
+    {
+        failed += report("ll_block_watch", block_watch);
+    }
+    failed += report("ll_split", split);
+    failed += report("ll_join", join);
+    std::process::exit(if failed == 0 { 0 } else { 1 });
+}

@@ -27,6 +27,16 @@ pub fn done(first: u64, second: u64, third: u64) -> Answer {
     }
 }
 
+// Done, with how many products, random bytes and steps it took.
+pub fn counted(products: usize, random: usize, steps: u32) -> Answer {
+    Answer {
+        number: 0,
+        first: products as u64,
+        second: random as u64,
+        third: steps as u64,
+    }
+}
+
 pub fn refused(number: u8, place: usize) -> Answer {
     Answer {
         number: number as u64,

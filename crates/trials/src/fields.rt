@@ -4,6 +4,9 @@ use crate::numbers::length;
 // No slice of a case is longer.
 const LONGEST: usize = 65536;
 
+// No list of numbers of 4 bytes is longer.
+pub const LONGEST_LIST: usize = 16384;
+
 // The bytes of a field, from start up to end. Good: it and all fields before it are as they should be.
 pub struct Field {
     pub start: usize,
@@ -63,6 +66,15 @@ pub fn next(file: &[u8], last: Field) -> Field {
 pub fn next_of(n: usize, file: &[u8], last: Field) -> Field {
     let f = next(file, last);
     if part(file, f).len() != n {
+        return malformed();
+    }
+    f
+}
+
+// The field after another, where it stands for a list of numbers of 4 bytes.
+pub fn next_list(file: &[u8], last: Field) -> Field {
+    let f = next(file, last);
+    if part(file, f).len() % 4 != 0 {
         return malformed();
     }
     f

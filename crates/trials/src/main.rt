@@ -12,6 +12,8 @@ mod try_fit;
 mod try_house_fit;
 mod try_join;
 mod try_read;
+mod try_sbox;
+mod try_sbox_watch;
 mod try_split;
 
 use operations::Operation;
@@ -42,6 +44,8 @@ fn main() {
     agree = agree & try_file(b"check", b"check.cases", Operation::Check);
     agree = agree & try_file(b"fit", b"fit.cases", Operation::Fit);
     agree = agree & try_file(b"house_fit", b"house_fit.cases", Operation::HouseFit);
+    agree = agree & try_file(b"sbox", b"sbox.cases", Operation::Sbox);
+    agree = agree & try_file(b"sbox_watch", b"sbox_watch.cases", Operation::SboxWatch);
     agree = agree & try_file(b"split", b"split.cases", Operation::Split);
     agree = agree & try_file(b"join", b"join.cases", Operation::Join);
     report::report_all(agree);

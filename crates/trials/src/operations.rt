@@ -5,6 +5,8 @@ use crate::try_fit::try_fit;
 use crate::try_house_fit::try_house_fit;
 use crate::try_join::try_join;
 use crate::try_read::try_read;
+use crate::try_sbox::try_sbox;
+use crate::try_sbox_watch::try_sbox_watch;
 use crate::try_split::try_split;
 
 pub enum Operation {
@@ -12,6 +14,8 @@ pub enum Operation {
     Check,
     Fit,
     HouseFit,
+    Sbox,
+    SboxWatch,
     Split,
     Join,
 }
@@ -23,6 +27,8 @@ pub fn try_case(operation: Operation, file: &[u8], at: usize) -> Trial {
         Operation::Check => try_check(file, at),
         Operation::Fit => try_fit(file, at),
         Operation::HouseFit => try_house_fit(file, at),
+        Operation::Sbox => try_sbox(file, at),
+        Operation::SboxWatch => try_sbox_watch(file, at),
         Operation::Split => try_split(file, at),
         Operation::Join => try_join(file, at),
     }

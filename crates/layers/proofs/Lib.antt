@@ -1,0 +1,5 @@
+pub mod Exchanges
+pub mod Number
+pub mod State
+pub mod View
+pub mod Stored

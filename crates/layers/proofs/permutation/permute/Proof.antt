@@ -1,0 +1,37 @@
+-- `permutation::permute` meets its contract: its exchanges are the permutation.
+use mathlib.Core.Path.{sym, _∙_}
+use borrow.Author.Needs.{needs}
+use Rattle.layers.proofs.Exchanges.{exchanges-permute}
+use Rattle.layers.proofs.permutation.permute.Statement.{statement}
+use Rattle.layers.proofs.permutation.permute.Tie as tie
+use Rattle.layers.proofs.permutation.permute.Reads as reads
+use Rattle.layers.proofs.permutation.permute.Lts as lts
+use Rattle.layers.proofs.permutation.exchange.Reads as exchange-reads
+
+exchange-requires : tie.Need-exchange-requires
+exchange-requires c κs = search needs
+
+exchange-requires-2 : tie.Need-exchange-requires-2
+exchange-requires-2 c κs = search needs
+
+exchange-requires-3 : tie.Need-exchange-requires-3
+exchange-requires-3 c κs = search needs
+
+exchange-requires-4 : tie.Need-exchange-requires-4
+exchange-requires-4 c κs = search needs
+
+returns : tie.Need-returns
+returns c =
+    let x = c .before .before .before .before .args .x in
+    let e = exchanges-permute x (search needs) in
+    cc
+
+pub permute-spec : {M : Type 1} → statement M
+permute-spec =
+    tie.close
+    (tie.spec
+    exchange-requires
+    exchange-requires-2
+    exchange-requires-3
+    exchange-requires-4
+    returns)

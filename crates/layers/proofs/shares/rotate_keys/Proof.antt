@@ -1,0 +1,47 @@
+-- `shares::rotate_keys` meets its contract. The invariant: the shares before number i are rotated.
+use mathlib.Core.Path.{_≡_, sym, ap, ap₂, _∙_}
+use Prim.Native.Nat.{_-_, _≤_}
+use native.Mathlib.Omega.{arith}
+use Rattle.present.specs.Present as present
+use Rattle.present.proofs.Numbers.{sound80, rotate-linear}
+use Rattle.layers.specs.State.{shareAt, sharesOf, sharing}
+use Rattle.layers.proofs.View.{map-given, Turned, turned-none, turned-more, turned-all}
+use borrow.Author.Needs.{needs}
+use Rattle.layers.proofs.shares.rotate_keys.Statement.{statement}
+use Rattle.layers.proofs.shares.rotate_keys.Tie as tie
+use Rattle.layers.proofs.shares.rotate_keys.Reads as reads
+use Rattle.layers.proofs.shares.rotate_keys.Lts as lts
+use Rattle.layers.proofs.share.rotate_share.Reads as rotate-share-reads
+
+abbrev Inv-loop : tie.InvT-loop
+Inv-loop s key₀ i₀ key i = Turned 10 (λ j. present.rotate present.size80 (shareAt 10 key₀ j)) i key₀ key
+
+abbrev μ-loop : tie.MeasureT-loop
+μ-loop s key₀ i₀ key i = s - i
+
+loop-holds : tie.Need-loop-holds Inv-loop μ-loop
+loop-holds c = turned-none
+
+rotate-share-requires : tie.Need-rotate-share-requires Inv-loop μ-loop
+rotate-share-requires c κs = search needs
+
+add-i : tie.Need-add-i Inv-loop μ-loop
+add-i c = search needs
+
+loop-less : tie.Need-loop-less Inv-loop μ-loop
+loop-less c = search needs
+
+loop-again : tie.Need-loop-again Inv-loop μ-loop
+loop-again c =
+    let l = c .before .before .before .loop in turned-more (l .inv) (c .rotate-share .ensures) (ap (present.rotate present.size80) (l .inv .ahead (l .i) (omega arith)))
+
+returns : tie.Need-returns Inv-loop μ-loop
+unfolding sharing sharesOf
+returns c =
+    let a = c .before .before .args in
+    turned-all (c .before .loop .inv) (c .loop-test .left) ∙ sym (map-given (a .s) (search needs) (rotate-linear present.size80 sound80) (shareAt 10 (a .key .now)))
+
+pub rotate-keys-spec : {M : Type 1} → statement M
+rotate-keys-spec =
+    tie.close
+    (tie.spec Inv-loop μ-loop loop-holds rotate-share-requires add-i loop-less loop-again returns)

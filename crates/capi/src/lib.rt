@@ -7,7 +7,10 @@ ghost use Rattle.decomposition.specs.Record.{readOutcome};
 ghost use Rattle.decomposition.specs.Check.{checkOutcome};
 ghost use Rattle.decomposition.specs.Fit.{Fits, HouseFits};
 ghost use Rattle.sbox.specs.Operations.{sboxOutcome, sboxOutput, watchOutcome, watchOutput};
+ghost use Rattle.cipher.specs.Operations.{blockOutcome, blockOutput, watchOutcome as block·watchOutcome, watchOutput as block·watchOutput};
 ghost use Rattle.capi.specs.Words.{words, Reported, ReportedBy};
+use cipher::enciphering::BlockAnswer;
+use cipher::watching::WatchAnswer as BlockWatchAnswer;
 use decomposition::CheckAnswer;
 use decomposition::FitAnswer;
 use decomposition::HouseFitAnswer;
@@ -133,6 +136,69 @@ pub extern "C" fn ll_sbox_watch(
             steps,
         } => { put(answer, 0, products as u64, random as u64, steps as u64) }
         WatchAnswer::Refused { number, place } => { put(answer, number as u64, place as u64, 0, 0) }
+    }
+}
+
+#[no_mangle]
+pub extern "C" fn ll_block(
+    record: &[u8],
+    s: u32,
+    key_shares: &[u8],
+    block_shares: &[u8],
+    random: &[u8],
+    out: &mut [u8],
+    answer: &mut [u64; 4],
+)
+    ensures { λ u. ⌜ Reported
+        (blockOutcome (now («record» .entry)) s (now («key_shares» .entry)) (now («block_shares» .entry)) (now (random .entry)) (length (now (out .entry))))
+        (blockOutput (now («record» .entry)) s (now («key_shares» .entry)) (now («block_shares» .entry)) (now (random .entry)))
+        (now (out .entry)) (now (out .exit)) (now (answer .exit)) ⌝ }
+{
+    let a = cipher::enciphering::block(record, s, key_shares, block_shares, random, out);
+    match a {
+        BlockAnswer::Done {
+            products,
+            random,
+            steps,
+        } => { put(answer, 0, products as u64, random as u64, steps as u64) }
+        BlockAnswer::Refused { number, place } => { put(answer, number as u64, place as u64, 0, 0) }
+    }
+}
+
+#[no_mangle]
+pub extern "C" fn ll_block_watch(
+    record: &[u8],
+    s: u32,
+    key_shares: &[u8],
+    block_shares: &[u8],
+    random: &[u8],
+    list: &[u32],
+    values: &mut [u8],
+    answer: &mut [u64; 4],
+)
+    ensures { λ u. ⌜ Reported
+        (block·watchOutcome (now («record» .entry)) s (now («key_shares» .entry)) (now («block_shares» .entry)) (now (random .entry)) (now (list .entry)) (length (now (values .entry))))
+        (block·watchOutput (now («record» .entry)) s (now («key_shares» .entry)) (now («block_shares» .entry)) (now (random .entry)) (now (list .entry)))
+        (now (values .entry)) (now (values .exit)) (now (answer .exit)) ⌝ }
+{
+    let a = cipher::watching::watch_block(
+        record,
+        s,
+        key_shares,
+        block_shares,
+        random,
+        list,
+        values,
+    );
+    match a {
+        BlockWatchAnswer::Done {
+            products,
+            random,
+            steps,
+        } => { put(answer, 0, products as u64, random as u64, steps as u64) }
+        BlockWatchAnswer::Refused { number, place } => {
+            put(answer, number as u64, place as u64, 0, 0)
+        }
     }
 }
 

@@ -1,17 +1,17 @@
--- The bytes of shares that lie in bytes are those bytes.
+-- The bytes of shares that lie in bytes are those bytes, and the shares that lie in the bytes of shares are those shares.
 use mathlib.Core.Path.{_≡_, refl, sym, ap, ap₂, _∙_}
 use mathlib.Core.List.{List, _∷_, _++_, append-nil}
-use Prim.Native.Nat.{ℕ, zero, suc, _+_, _*_, _≤_, _<_}
-use native.Mathlib.Nat.{zero-add, suc-add, add-assoc, add-zero, mul-zero, mul-suc}
+use Prim.Native.Nat.{ℕ, zero, suc, _+_, _*_, _^_, _≤_, _<_}
+use native.Mathlib.Nat.{not-suc-le-zero, le-of-suc-le-suc, zero-add, suc-add, add-assoc, add-zero, mul-zero, mul-suc}
 use native.Mathlib.Decide.{decLt}
 use native.Mathlib.Omega.{arith}
-use lib.ListN.{length, getD, take, drop-of-length-le, List·getD-eq-default}
-use lib.Seq.{ext-getD, length-take-le, getD-take, take-length, paste}
+use lib.ListN.{length, getD, take, drop-of-length-le, List·getD-eq-default, List·getD-append}
+use lib.Seq.{ext-getD, length-take-le, getD-take, getD-append-add, take-length, paste}
 use Rattle.xor.specs.Sum.{Small}
 use Rattle.steps.specs.Fill.{tabulate}
-use Rattle.steps.proofs.Fill.{length-tabulate, getD-tabulate, tabulate-same}
+use Rattle.steps.proofs.Fill.{length-tabulate, getD-tabulate, tabulate-same, tabulate-getD}
 use Rattle.present.specs.Bytes.{fromBytes, toBytes}
-use Rattle.present.proofs.Bytes.{to-from-bytes}
+use Rattle.present.proofs.Bytes.{length-to-bytes, from-to-bytes, to-from-bytes}
 use Rattle.layers.specs.State.{bytesAt, shareAt, sharesOf, bytesOf}
 
 tabulate-append : {B : Type 0} (m n : ℕ) (f : ℕ → B) → tabulate (m + n) f ≡ tabulate m f ++ tabulate n (λ j. f (m + j))
@@ -69,6 +69,42 @@ module _ (w : ℕ) (l : List ℕ) (small : Small 8 l) where
       (length-tabulate (w * s) first ∙ sym (length-take-le (w * s) l h))
       (λ i k. let g : i < w * s = omega (arith, length-tabulate (w * s) first) in
       getD-tabulate (w * s) first i 0 g ∙ ap (λ (p : ℕ). getD l p 0) (zero-add i) ∙ sym (getD-take (w * s) l i 0 g))
+
+-- ---- the shares that lie in the bytes of shares are those shares
+
+-- the first share
+share-first : (w x : ℕ) (l : List ℕ) → x < 2 ^ (8 * w) → shareAt w (toBytes w x ++ l) 0 ≡ x
+unfolding shareAt bytesAt
+share-first w x l h =
+    let size = length-to-bytes w x in
+    ap fromBytes
+    (tabulate-same w (λ j. getD (toBytes w x ++ l) (w * 0 + j) 0) (λ j. getD (toBytes w x) j 0)
+    (λ j k. let e : w * 0 + j ≡ j = omega (arith, mul-zero w) in
+    ap (λ (p : ℕ). getD (toBytes w x ++ l) p 0) e ∙ List·getD-append (toBytes w x) l 0 j (omega arith))
+    ∙ ap (λ (n : ℕ). tabulate n (λ j. getD (toBytes w x) j 0)) (sym size)
+    ∙ tabulate-getD (toBytes w x) 0)
+    ∙ from-to-bytes w x h
+
+-- the shares after it
+share-later : (w x i : ℕ) (l : List ℕ) → shareAt w (toBytes w x ++ l) (suc i) ≡ shareAt w l i
+unfolding shareAt bytesAt
+share-later w x i l =
+    let size = length-to-bytes w x in
+    ap fromBytes
+    (tabulate-same w (λ j. getD (toBytes w x ++ l) (w * suc i + j) 0) (λ j. getD l (w * i + j) 0)
+    (λ j k. let e : w * suc i + j ≡ length (toBytes w x) + (w * i + j) = omega (arith, mul-suc w i) in
+    ap (λ (p : ℕ). getD (toBytes w x ++ l) p 0) e ∙ getD-append-add (toBytes w x) l (w * i + j) 0))
+
+share-bytes : (w s : ℕ) (f : ℕ → ℕ) → ((i : ℕ) → f i < 2 ^ (8 * w)) → (i : ℕ) → i < s → shareAt w (bytesOf w (tabulate s f)) i ≡ f i
+unfolding tabulate bytesOf
+share-bytes w zero f h i k = absurd (not-suc-le-zero k)
+share-bytes w (suc s) f h zero k = share-first w (f 0) (bytesOf w (tabulate s (λ i. f (suc i)))) (h 0)
+share-bytes w (suc s) f h (suc i) k =
+    share-later w (f 0) i (bytesOf w (tabulate s (λ i. f (suc i)))) ∙ share-bytes w s (λ i. f (suc i)) (λ i. h (suc i)) i (le-of-suc-le-suc k)
+
+pub shares-of-bytes : (w s : ℕ) (f : ℕ → ℕ) → ((i : ℕ) → f i < 2 ^ (8 * w)) → sharesOf w s (bytesOf w (tabulate s f)) ≡ tabulate s f
+unfolding sharesOf
+shares-of-bytes w s f h = tabulate-same s (shareAt w (bytesOf w (tabulate s f))) f (share-bytes w s f h)
 
 -- what is copied to the whole of a buffer
 pub pasted-whole : (d s : List ℕ) → length d ≡ length s → paste d 0 s (length s) ≡ s

@@ -1,16 +1,16 @@
 -- The laws of calls: the arguments that pass the tests, and what a run hands back and writes.
-use mathlib.Core.Path.{_≡_, refl, sym, ap, _∙_, subst}
+use mathlib.Core.Path.{_≡_, sym, _∙_, subst}
 use mathlib.Core.Logic.{inl, inr}
 use mathlib.Core.Bool.{Bool, true}
 use mathlib.Core.List.{List, [], _∷_, _++_}
-use Prim.Native.Nat.{ℕ, zero, suc, _+_, _-_, _*_, _^_, _≤_, _<_}
+use Prim.Native.Nat.{ℕ, suc, _+_, _-_, _*_, _^_, _≤_, _<_}
 use native.Mathlib.Nat.{mul-le-mul}
 use native.Mathlib.Decide.{decLt}
 use native.Mathlib.Omega.{arith}
 use borrow.Author.Tests.{eqb-true}
 use lib.Dec.{leb, eqb}
 use lib.ListN.{length, getD, List·getD-eq-default}
-use Rattle.refusal.specs.Outcome.{Outcome, done, refused, test, andThen}
+use Rattle.refusal.specs.Outcome.{done}
 use Rattle.refusal.specs.Range.{oneTo}
 use Rattle.refusal.specs.Large.{firstLarge}
 use Rattle.refusal.proofs.Outcome.{passed, then-passed}
@@ -113,7 +113,7 @@ unfolding sboxOutput
 call-output a w = rw (a .accepted .named, w .result-is)
 
 -- what a watch leaves, where each number of the list is that of a step
-all-below : (n : ℕ) (l : List ℕ) → ((k : ℕ) → getD l k 0 < n) → AllBelow n l
+pub all-below : (n : ℕ) (l : List ℕ) → ((k : ℕ) → getD l k 0 < n) → AllBelow n l
 all-below n [] h = tt
 all-below n (x ∷ l) h = (h 0, all-below n l (λ k. h (suc k)))
 

@@ -1,5 +1,5 @@
 -- The programs of the code's table are those of the definition: they run in lockstep, and the rows of the table are the sharings made so far.
-use mathlib.Core.Path.{_≡_, refl, sym, ap, ap₂, _∙_, subst}
+use mathlib.Core.Path.{_≡_, refl, sym, ap, ap₂, _∙_}
 use mathlib.Core.Bool.{Bool, true, false, cond}
 use mathlib.Core.List.{List, [], _∷_, _++_, append-nil, append-assoc}
 use Prim.Native.Nat.{ℕ, zero, suc, _+_, _-_, _*_, _≤_, _<_}
@@ -11,13 +11,12 @@ use lib.Dec.{eqb}
 use lib.ListN.{length, getD, set, replicate, length-append, length-set, List·getD-append}
 use lib.Seq.{getD-set-same, getD-set-other, getD-append-add, getD-at}
 use Rattle.xor.specs.Xor.{_⊕_}
-use Rattle.field.specs.Mul.{mul}
 use Rattle.field.specs.Polynomial.{exponents}
-use Rattle.steps.specs.Program.{Run, done, mark, one, _>>=_, _>>_, note, random, loop, for}
+use Rattle.steps.specs.Program.{Run, done, mark, one, _>>=_, _>>_, note, loop, for}
 use Rattle.steps.specs.Sharing.{share}
 use Rattle.steps.proofs.Program.{bind-bind, for-same, for-split, for-turn, for-end}
-use Rattle.steps.proofs.Lockstep.{Lockstep, lockstep-done, lockstep-step, lockstep-bind, lockstep-right, lockstep-self, lockstep-left, lockstep-weaken, lockstep-for}
-use Rattle.steps.proofs.Lockstep.{lockstep-same}
+use Rattle.steps.proofs.Lockstep.{Lockstep, lockstep-done, lockstep-step, lockstep-bind, lockstep-right, lockstep-self, lockstep-left}
+use Rattle.steps.proofs.Lockstep.{lockstep-weaken, lockstep-for, lockstep-same}
 use Rattle.steps.proofs.Sharing.{share-zeros}
 use Rattle.product.specs.Product.{start, pair, row, product}
 use Rattle.sbox.specs.Sbox.{byShare, nth, constant, square, squares, thirdClass, powers, term, polynomial, polynomials, products, total, sbox}
@@ -38,7 +37,8 @@ for-times i s k f t e = let d : s - i ≡ k = omega arith in rw d
 
 -- ---- the masked product depends on the nine shares alone
 
-module _ (n s : ℕ) (nine : s ≤ 9) (a a′ b b′ : List ℕ) (ea : (i : ℕ) → i < 9 → share a i ≡ share a′ i) (eb : (i : ℕ) → i < 9 → share b i ≡ share b′ i) where
+module _ (n s : ℕ) (nine : s ≤ 9) (a a′ b b′ : List ℕ)
+    (ea : (i : ℕ) → i < 9 → share a i ≡ share a′ i) (eb : (i : ℕ) → i < 9 → share b i ≡ share b′ i) where
   start-same : (i : ℕ) (c : List ℕ) → i < 9 → start n a b i c ≡ start n a′ b′ i c
   unfolding start
   start-same i c h = rw (ea i h, eb i h)

@@ -1,20 +1,16 @@
 -- What the code's loops count is what the figures of the S-box say.
 use mathlib.Core.Path.{_≡_, refl}
 use mathlib.Core.Logic.{inl, inr}
-use Prim.Native.Nat.{ℕ, _+_, _-_, _*_, _/_, _≤_, _<_}
+use Prim.Native.Nat.{ℕ, _+_, _-_, _<_}
 use native.Mathlib.Nat.{sub-zero}
 use native.Mathlib.Omega.{arith}
 use borrow.Author.Tests.{eq-eqb, ne-eqb}
-use lib.ListN.{length}
 use Rattle.field.specs.Mul.{Width}
-use Rattle.field.specs.Polynomial.{exponents}
-use Rattle.field.proofs.Polynomial.{length-exponents-4, length-exponents-6}
 use Rattle.steps.specs.Loop.{each}
-use Rattle.product.specs.Counts.{pairs, eachPair}
+use Rattle.product.specs.Counts.{eachPair}
 use Rattle.product.proofs.Counts.{pairs-is, pairs-twice}
-use Rattle.sbox.specs.Form.{basisSize}
 use Rattle.sbox.specs.Figures.{sboxProducts, sboxDraws, sboxSteps}
-use Rattle.sbox.specs.TableCounts.{productDraws, productSteps, atSix, powerProducts, powerDraws, powerSteps, totalSteps, fillProducts, fillDraws, fillSteps}
+use Rattle.sbox.specs.TableCounts.{atSix, powerProducts, powerDraws, powerSteps, totalSteps, fillProducts, fillDraws, fillSteps}
 
 pub width-range : (n : ℕ) → Width n → (3 < n) × (n < 7)
 width-range n (inl e) = (omega arith, omega arith)

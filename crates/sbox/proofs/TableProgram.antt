@@ -1,12 +1,12 @@
 -- The program of the code is that of the definition, at each width and for each record.
-use mathlib.Core.Path.{_≡_, refl, sym, ap, _∙_}
+use mathlib.Core.Path.{_≡_, refl, ap, _∙_}
 use mathlib.Core.Logic.{inl, inr}
 use mathlib.Core.Bool.{cond}
-use mathlib.Core.List.{List, []}
+use mathlib.Core.List.{List}
 use Prim.Native.Nat.{ℕ, suc, _+_, _-_, _*_, _≤_, _<_}
 use native.Mathlib.Omega.{arith}
 use lib.Dec.{eqb}
-use lib.ListN.{length, getD, take, drop}
+use lib.ListN.{length, getD, drop}
 use lib.Seq.{getD-take, getD-drop}
 use Rattle.field.specs.Mul.{Width}
 use Rattle.field.specs.Polynomial.{exponents}
@@ -72,4 +72,5 @@ rows-are-sbox n k h s w ek eh nine rec x y same =
     let lp : length ps ≡ suc h = length-polynomials m (suc h) (drop (6 + h * m) rec) in
     rw (ek, eh)
     (rows-same n s nine k h (z .some) (z .few) rec qs ps (omega arith) lq (omega arith)
-    (λ i l. reads-from k h 0 6 rec (omega arith) i (omega arith)) (λ i l. reads-from k (suc h) h (6 + h * m) rec refl i (omega arith)) x y (z .wide) (z .narrow) (z .made) same)
+    (λ i l. reads-from k h 0 6 rec (omega arith) i (omega arith))
+    (λ i l. reads-from k (suc h) h (6 + h * m) rec refl i (omega arith)) x y (z .wide) (z .narrow) (z .made) same)

@@ -73,7 +73,8 @@ fn argument_tests(width: u32, s: u32, shares: &[u8], random: &[u8], fits: bool) 
 fn element_tests(width: u32, shares: &[u8], random: &[u8]) -> Tested
     requires { ⌜ Width width ⌝ }
     requires { ⌜ (length (now shares) ≤ 9) × (length (elements width (now random)) ≤ 200) ⌝ }
-    ensures { λ r. ⌜ testedReport r ≡ testBelow (2 ^ width) 0 (now (shares .entry) ++ elements width (now (random .entry))) (done (width ∷ [])) ⌝ }
+    ensures { λ r. ⌜ testedReport r
+        ≡ testBelow (2 ^ width) 0 (now (shares .entry) ++ elements width (now (random .entry))) (done (width ∷ [])) ⌝ }
 {
     let bound = order(width);
     let first = first_large(bound, shares);

@@ -2,9 +2,9 @@
 ghost use Prim.Native.Nat.{_+_, _*_, _<_, _≤_};
 ghost use lib.ListN.{length};
 ghost use Rattle.field.specs.Mul.{Width};
+ghost use Rattle.field.specs.Polynomial.{exponents};
 ghost use Rattle.steps.specs.Tape.{elements};
 ghost use Rattle.steps.specs.Machine.{Ready, Went};
-ghost use Rattle.field.specs.Polynomial.{exponents};
 ghost use Rattle.steps.specs.Loop.{each};
 ghost use Rattle.sbox.specs.Sbox.{sbox};
 ghost use Rattle.sbox.specs.Form.{basisSize};
@@ -35,8 +35,10 @@ fn fill_rows(
 ) -> Counts
     requires { ⌜ Width width ⌝ }
     requires { ⌜ (s ≤ 9) × (k ≤ 18) × (h ≤ 3) × (6 + (h + (h + 1)) * (k + 1) ≤ length (now rec)) ⌝ }
-    requires { ⌜ Ready (fillProducts width h) (fillDraws width h s) (fillSteps width k h s) n (elements width (now random)) (now watch) (now values) ⌝ }
-    ensures { λ w. ⌜ Went (fillProducts width h) (fillDraws width h s) (fillSteps width k h s) (elements width (now (random .entry))) (now (watch .entry))
+    requires { ⌜ Ready (fillProducts width h) (fillDraws width h s) (fillSteps width k h s)
+        n (elements width (now random)) (now watch) (now values) ⌝ }
+    ensures { λ w. ⌜ Went (fillProducts width h) (fillDraws width h s) (fillSteps width k h s)
+        (elements width (now (random .entry))) (now (watch .entry))
         (spec.fillRows width k h s (now (rec .entry)) (now (t .entry)))
         n (now (values .entry)) (now (t .exit)) w (now (values .exit)) ⌝ }
 {
@@ -84,8 +86,10 @@ fn evaluate(
 ) -> Masked
     requires { ⌜ Width width ⌝ }
     requires { ⌜ (s ≤ 9) × (k ≤ 18) × (0 < h) × (h ≤ 3) × (6 + (h + (h + 1)) * (k + 1) ≤ length (now rec)) ⌝ }
-    requires { ⌜ Ready (fillProducts width h) (fillDraws width h s) (fillSteps width k h s + each (totalSteps h) s 0) n (elements width (now random)) (now watch) (now values) ⌝ }
-    ensures { λ w. ⌜ Went (fillProducts width h) (fillDraws width h s) (fillSteps width k h s + each (totalSteps h) s 0) (elements width (now (random .entry))) (now (watch .entry))
+    requires { ⌜ Ready (fillProducts width h) (fillDraws width h s) (fillSteps width k h s + each (totalSteps h) s 0)
+        n (elements width (now random)) (now watch) (now values) ⌝ }
+    ensures { λ w. ⌜ Went (fillProducts width h) (fillDraws width h s) (fillSteps width k h s + each (totalSteps h) s 0)
+        (elements width (now (random .entry))) (now (watch .entry))
         (spec.sboxRows width k h s (now (rec .entry)) (now (x .entry)))
         n (now (values .entry)) (w .shares) (w .counts) (now (values .exit)) ⌝ }
 {
@@ -95,7 +99,8 @@ fn evaluate(
     totals(width, s, h, k + (h + (h + 1)), random, watch, values, &t, n)
 }
 
-// The masked S-box of the sharing x, of s shares, by a record of the width.
+// The masked S-box of the sharing x, of s shares, by a record of the width. The width is tested here, so that the numbers of powers and products
+// are known in each case.
 pub fn run(
     width: u32,
     s: usize,

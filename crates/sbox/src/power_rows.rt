@@ -132,8 +132,10 @@ fn third_class(
 ) -> Counts
     requires { ⌜ Width width ⌝ }
     requires { ⌜ s ≤ 9 ⌝ }
-    requires { ⌜ Ready (atSix width 1) (atSix width (productDraws s)) (atSix width (productSteps s + squareSteps s 12 17)) n (elements width (now random)) (now watch) (now values) ⌝ }
-    ensures { λ w. ⌜ Went (atSix width 1) (atSix width (productDraws s)) (atSix width (productSteps s + squareSteps s 12 17)) (elements width (now (random .entry))) (now (watch .entry))
+    requires { ⌜ Ready (atSix width 1) (atSix width (productDraws s)) (atSix width (productSteps s + squareSteps s 12 17))
+        n (elements width (now random)) (now watch) (now values) ⌝ }
+    ensures { λ w. ⌜ Went (atSix width 1) (atSix width (productDraws s)) (atSix width (productSteps s + squareSteps s 12 17))
+        (elements width (now (random .entry))) (now (watch .entry))
         (spec.thirdRows (eqb width 6) width s (now (t .entry)))
         n (now (values .entry)) (now (t .exit)) w (now (values .exit)) ⌝ }
 {

@@ -1,6 +1,5 @@
 // The products of the p and the q, and their sum with the last p.
 ghost use Prim.Native.Nat.{_+_, _-_, _<_, _≤_};
-ghost use lib.ListN.{replicate};
 ghost use Rattle.field.specs.Mul.{Width};
 ghost use Rattle.steps.specs.Tape.{elements};
 ghost use Rattle.steps.specs.Machine.{Ready, Went};
@@ -30,8 +29,10 @@ pub fn products(
 ) -> Counts
     requires { ⌜ Width width ⌝ }
     requires { ⌜ (s ≤ 9) × (q + h ≤ 28) × (p + h ≤ 28) × (z + h ≤ 28) ⌝ }
-    requires { ⌜ Ready (each 1 h 0) (each (productDraws s) h 0) (each (productSteps s) h 0) n (elements width (now random)) (now watch) (now values) ⌝ }
-    ensures { λ w. ⌜ Went (each 1 h 0) (each (productDraws s) h 0) (each (productSteps s) h 0) (elements width (now (random .entry))) (now (watch .entry))
+    requires { ⌜ Ready (each 1 h 0) (each (productDraws s) h 0) (each (productSteps s) h 0)
+        n (elements width (now random)) (now watch) (now values) ⌝ }
+    ensures { λ w. ⌜ Went (each 1 h 0) (each (productDraws s) h 0) (each (productSteps s) h 0)
+        (elements width (now (random .entry))) (now (watch .entry))
         (for 0 h (spec.productRow width s q p z) (now (t .entry)))
         n (now (values .entry)) (now (t .exit)) w (now (values .exit)) ⌝ }
 {

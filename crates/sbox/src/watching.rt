@@ -27,7 +27,7 @@ pub enum WatchAnswer {
 }
 
 // Whether a list of so many numbers has as many places for their values, and is not too long.
-fn list_fits(numbers: usize, places: usize) -> bool
+pub fn list_fits(numbers: usize, places: usize) -> bool
     ensures { λ r. ⌜ r ≡ (eqb numbers places && leb numbers 64) ⌝ }
 {
     if numbers != places {
@@ -37,7 +37,8 @@ fn list_fits(numbers: usize, places: usize) -> bool
 }
 
 // The masked S-box under a watch: value k is what the step whose number stands at place k of the list records.
-// Refused: as S-box; 2 also for lengths of list and values that differ, or over 64 numbers; last 8, a number that is not a step's. Then `values` is unchanged.
+// Refused: as S-box; 2 also for lengths of list and values that differ, or over 64 numbers; last 8, a number that is not a step's.
+// Then `values` is unchanged.
 pub fn watch_sbox(
     rec: &[u8],
     s: u32,

@@ -7,6 +7,8 @@ mod numbers;
 mod operations;
 mod report;
 mod tally;
+mod try_block;
+mod try_block_watch;
 mod try_check;
 mod try_fit;
 mod try_house_fit;
@@ -46,6 +48,8 @@ fn main() {
     agree = agree & try_file(b"house_fit", b"house_fit.cases", Operation::HouseFit);
     agree = agree & try_file(b"sbox", b"sbox.cases", Operation::Sbox);
     agree = agree & try_file(b"sbox_watch", b"sbox_watch.cases", Operation::SboxWatch);
+    agree = agree & try_file(b"block", b"block.cases", Operation::Block);
+    agree = agree & try_file(b"block_watch", b"block_watch.cases", Operation::BlockWatch);
     agree = agree & try_file(b"split", b"split.cases", Operation::Split);
     agree = agree & try_file(b"join", b"join.cases", Operation::Join);
     report::report_all(agree);

@@ -1,5 +1,7 @@
 // The operations that have cases. An operation is added by a module that tries its cases, an arm here and a line in `main`.
 use crate::answer::Trial;
+use crate::try_block::try_block;
+use crate::try_block_watch::try_block_watch;
 use crate::try_check::try_check;
 use crate::try_fit::try_fit;
 use crate::try_house_fit::try_house_fit;
@@ -16,6 +18,8 @@ pub enum Operation {
     HouseFit,
     Sbox,
     SboxWatch,
+    Block,
+    BlockWatch,
     Split,
     Join,
 }
@@ -29,6 +33,8 @@ pub fn try_case(operation: Operation, file: &[u8], at: usize) -> Trial {
         Operation::HouseFit => try_house_fit(file, at),
         Operation::Sbox => try_sbox(file, at),
         Operation::SboxWatch => try_sbox_watch(file, at),
+        Operation::Block => try_block(file, at),
+        Operation::BlockWatch => try_block_watch(file, at),
         Operation::Split => try_split(file, at),
         Operation::Join => try_join(file, at),
     }

@@ -20,7 +20,8 @@ same-length c = search needs
 returns : tie.Need-returns
 returns c =
     let x = c .before .before .before .before .before .nine in
-    rw (← call-program (x .result) (c .before .before .before .before .before .before .before .before .before .before .before .pre .0) (x .ensures)) (c .before .before .run .ensures)
+    rw (← call-program (x .result)
+    (c .before .before .before .before .before .before .before .before .before .before .before .pre .0) (x .ensures)) (c .before .before .run .ensures)
 
 pub call-spec : {M : Type 1} → statement M
 call-spec = tie.close (tie.spec nine-requires run-requires same-length returns)

@@ -11,7 +11,8 @@ put-requires c κs = search needs
 
 fill-rows-requires : tie.Need-fill-rows-requires
 fill-rows-requires c κs =
-    let p = c .before .before .before .before .before .before .before .before .pre in (p .0, (omega arith, omega (arith, p .1 .1)))
+    let p = c .before .before .before .before .before .before .before .before .pre in
+    (p .0, (omega arith, omega (arith, p .1 .1)))
 
 add-totals : tie.Need-add-totals
 add-totals c = search needs
@@ -24,7 +25,8 @@ add-totals-3 c = search needs
 
 totals-requires : tie.Need-totals-requires
 totals-requires c κs =
-    let p = c .before .before .before .before .before .before .before .before .before .before .before .before .before .pre in (p .0, (omega arith, omega (arith, p .1 .1)))
+    let p = c .before .before .before .before .before .before .before .before .before .before .before .before .before .pre in
+    (p .0, (omega arith, omega (arith, p .1 .1)))
 
 same-length : tie.Need-same-length
 same-length c = search needs

@@ -10,7 +10,8 @@ use Rattle.sbox.proofs.evaluation.fill_rows.Tie as tie
 powers-requires : tie.Need-powers-requires
 unfolding fillProducts fillDraws fillSteps
 powers-requires c κs =
-    let p = c .before .before .before .before .before .before .pre in (p .0, (omega arith, omega (arith, p .1 .1)))
+    let p = c .before .before .before .before .before .before .pre in
+    (p .0, (omega arith, omega (arith, p .1 .1)))
 
 add-count : tie.Need-add-count
 add-count c = search needs
@@ -21,7 +22,8 @@ add-count-2 c = search needs
 polynomials-requires : tie.Need-polynomials-requires
 unfolding fillProducts fillDraws fillSteps
 polynomials-requires c κs =
-    let p = c .before .before .before .before .before .before .before .before .before .before .before .pre in (p .0, (omega arith, omega (arith, p .1 .1)))
+    let p = c .before .before .before .before .before .before .before .before .before .before .before .pre in
+    (p .0, (omega arith, omega (arith, p .1 .1)))
 
 add-products : tie.Need-add-products
 add-products c = search needs
@@ -32,7 +34,8 @@ add-products-2 c = search needs
 products-requires : tie.Need-products-requires
 unfolding fillProducts fillDraws fillSteps
 products-requires c κs =
-    let p = c .before .before .before .before .before .before .before .before .before .before .before .before .before .before .before .before .pre in (p .0, (omega arith, omega (arith, p .1 .1)))
+    let p = c .before .before .before .before .before .before .before .before .before .before .before .before .before .before .before .before .pre in
+    (p .0, (omega arith, omega (arith, p .1 .1)))
 
 same-length : tie.Need-same-length
 same-length c = search needs

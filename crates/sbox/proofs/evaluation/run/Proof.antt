@@ -2,7 +2,7 @@
 use native.Mathlib.Omega.{arith}
 use borrow.Author.Needs.{needs}
 use Rattle.field.proofs.Turns.{width-6}
-use Rattle.sbox.proofs.Widths.{Sized, sized-4, sized-6, sized-room, sized-ready, sized-went}
+use Rattle.sbox.proofs.Widths.{sized-4, sized-6, sized-room, sized-ready, sized-went}
 use Rattle.sbox.proofs.evaluation.run.Statement.{statement}
 use Rattle.sbox.proofs.evaluation.run.Tie as tie
 

@@ -25,8 +25,13 @@ loop-holds c = search going
 
 polynomial-requires : tie.Need-polynomial-requires Inv-loop μ-loop
 polynomial-requires c κs =
-    let h = c .before .before .loop-test .taken in
-    (search needs, ((omega arith, omega arith, omega arith, place-within _ h (search needs)), going-ready (c .before .before .before .loop .inv) (search needs) refl refl (each-turn _ h)))
+    let h = c .before .before .loop-test .taken in (
+      search needs,
+      (
+        (omega arith, omega arith, omega arith, place-within _ h (search needs)),
+        going-ready (c .before .before .before .loop .inv) (search needs) refl refl (each-turn _ h),
+      ),
+    )
 
 add-j : tie.Need-add-j Inv-loop μ-loop
 add-j c = search needs

@@ -38,7 +38,12 @@ same-length c = search needs
 returns : tie.Need-returns
 unfolding table.cell
 returns c =
-    record { runs = term-runs _ _ _ _ _ _ _ _ _ _ _ _ _ _ (search needs) (search needs) (search needs); took-products = search needs; took-draws = search needs; took-steps = search needs }
+    record {
+      runs = term-runs _ _ _ _ _ _ _ _ _ _ _ _ _ _ (search needs) (search needs) (search needs);
+      took-products = search needs;
+      took-draws = search needs;
+      took-steps = search needs;
+    }
 
 pub term-spec : {M : Type 1} → statement M
 term-spec =

@@ -14,7 +14,8 @@ sub-square-rows c = omega (arith, width-range _ (c .before .before .before .pre 
 square-rows-requires : tie.Need-square-rows-requires
 unfolding powerProducts powerDraws powerSteps
 square-rows-requires c κs =
-    let p = c .before .before .before .before .before .pre in (p .0, (omega (arith, width-range _ (p .0)), omega (arith, p .1 .1)))
+    let p = c .before .before .before .before .before .pre in
+    (p .0, (omega (arith, width-range _ (p .0)), omega (arith, p .1 .1)))
 
 mul-power-class : tie.Need-mul-power-class
 mul-power-class c = search needs
@@ -25,12 +26,14 @@ sub-power-class c = omega (arith, width-range _ (c .before .before .before .befo
 power-class-requires : tie.Need-power-class-requires
 unfolding powerProducts powerDraws powerSteps
 power-class-requires c κs =
-    let p = c .before .before .before .before .before .before .before .before .before .before .pre in (p .0, (omega (arith, width-range _ (p .0)), omega (arith, p .1 .1)))
+    let p = c .before .before .before .before .before .before .before .before .before .before .pre in
+    (p .0, (omega (arith, width-range _ (p .0)), omega (arith, p .1 .1)))
 
 third-class-requires : tie.Need-third-class-requires
 unfolding powerProducts powerDraws powerSteps
 third-class-requires c κs =
-    let p = c .before .before .before .before .before .before .before .before .before .before .before .before .before .before .before .pre in (p .0, (p .1 .0, omega (arith, p .1 .1)))
+    let p = c .before .before .before .before .before .before .before .before .before .before .before .before .before .before .before .pre in
+    (p .0, (p .1 .0, omega (arith, p .1 .1)))
 
 same-length : tie.Need-same-length
 same-length c = search needs

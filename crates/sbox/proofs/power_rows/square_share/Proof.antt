@@ -38,7 +38,12 @@ same-length c = search needs
 returns : tie.Need-returns
 unfolding table.cell table.setCell
 returns c =
-    record { runs = square-runs _ _ _ _ _ _ _ _ _ _ _ (search needs) (search needs) (search needs); took-products = search needs; took-draws = search needs; took-steps = search needs }
+    record {
+      runs = square-runs _ _ _ _ _ _ _ _ _ _ _ (search needs) (search needs) (search needs);
+      took-products = search needs;
+      took-draws = search needs;
+      took-steps = search needs;
+    }
 
 pub square-share-spec : {M : Type 1} → statement M
 square-share-spec =

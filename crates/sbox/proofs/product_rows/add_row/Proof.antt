@@ -23,7 +23,12 @@ same-length c = search needs
 returns : tie.Need-returns
 unfolding table.cell
 returns c =
-    record { runs = add-runs _ _ _ _ _ _ _ _ _ _ (search needs) (search needs); took-products = search needs; took-draws = search needs; took-steps = search needs }
+    record {
+      runs = add-runs _ _ _ _ _ _ _ _ _ _ (search needs) (search needs);
+      took-products = search needs;
+      took-draws = search needs;
+      took-steps = search needs;
+    }
 
 pub add-row-spec : {M : Type 1} → statement M
 add-row-spec =

@@ -45,7 +45,8 @@ loop-again : tie.Need-loop-again Inv-loop μ-loop
 unfolding spec.productRow
 loop-again c =
     let h = c .before .before .before .before .before .loop-test .taken in
-    going-on (c .before .before .before .before .before .before .loop .inv) h (c .before .before .multiply-rows .ensures) (search needs) (each-turn 1 h) (each-turn _ h) (each-turn _ h)
+    going-on (c .before .before .before .before .before .before .loop .inv) h (c .before .before .multiply-rows .ensures) (search needs)
+    (each-turn 1 h) (each-turn _ h) (each-turn _ h)
 
 same-length : tie.Need-same-length Inv-loop μ-loop
 same-length c = search needs

@@ -17,7 +17,8 @@ use Rattle.sbox.proofs.product_rows.totals.Tie as tie
 
 abbrev Inv-loop : tie.InvT-loop
 Inv-loop width s h z random watch values₀ t c₀ n₀ i₀ values c n i =
-    (length c ≡ 9) × Going (λ i. 0) (λ i. 0) (each (totalSteps h) s) (elements width random) watch (λ i c. spec.totalShare h z t i >>= (λ v. done (set c i v))) 0 s c₀ n₀ values₀
+    (length c ≡ 9)
+    × Going (λ i. 0) (λ i. 0) (each (totalSteps h) s) (elements width random) watch (λ i c. spec.totalShare h z t i >>= (λ v. done (set c i v))) 0 s c₀ n₀ values₀
     i c n values
 
 abbrev μ-loop : tie.MeasureT-loop

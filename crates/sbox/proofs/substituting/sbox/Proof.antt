@@ -1,14 +1,13 @@
 -- `sbox` meets its contract: by what the tests come to.
 use mathlib.Core.Path.{_≡_, sym, ap, _∙_}
-use mathlib.Core.Bool.{true}
 use mathlib.Core.List.{[], _∷_}
 use borrow.Author.Needs.{needs}
 use borrow.Author.Tests.{eqb-true}
 use lib.Dec.{eqb}
 use lib.ListN.{length}
-use Rattle.refusal.specs.Outcome.{done, refused}
+use Rattle.refusal.specs.Outcome.{done}
 use Rattle.refusal.proofs.Outcome.{refuses}
-use Rattle.sbox.specs.Operations.{Callable, testedReport, callTests, sboxOutcome}
+use Rattle.sbox.specs.Operations.{testedReport, callTests, sboxOutcome}
 use Rattle.sbox.proofs.Calls.{tests-passed}
 use Rattle.sbox.proofs.substituting.sbox.Statement.{statement}
 use Rattle.sbox.proofs.substituting.sbox.Tie as tie

@@ -1,5 +1,5 @@
 -- `substitute` meets its contract: a run under an empty watch list, whose result is copied out.
-use mathlib.Core.Path.{_≡_, _∙_}
+use mathlib.Core.Path.{_∙_}
 use borrow.Author.Needs.{needs}
 use Rattle.refusal.proofs.Outcome.{succeeds}
 use Rattle.steps.proofs.Machine.{went-whole}

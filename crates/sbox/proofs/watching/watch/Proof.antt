@@ -1,5 +1,5 @@
 -- `watch` meets its contract: the step numbers are tested, and then a run is watched.
-use mathlib.Core.Path.{_≡_, sym, ap, _∙_}
+use mathlib.Core.Path.{_≡_, sym}
 use Prim.Native.Nat.{_≤_, _<_}
 use native.Mathlib.Omega.{arith}
 use borrow.Author.Needs.{needs}
@@ -46,7 +46,8 @@ returns-2 c =
     let past = c .before .before .before .before .before .before .before .first-past in
     let e : firstLarge (sboxSteps (a .width) (a .s)) (a .list .now) ≡ past .result =
     rw (← (c .before .before .before .before .before .before .before .before .step-count .ensures)) (sym (past .ensures)) in
-    let h : length (a .list .now) ≤ firstLarge (sboxSteps (a .width) (a .s)) (a .list .now) = omega (arith, e, c .before .before .before .before .before .before .if1 .left) in
+    let h : length (a .list .now) ≤ firstLarge (sboxSteps (a .width) (a .s)) (a .list .now) =
+    omega (arith, e, c .before .before .before .before .before .before .if1 .left) in
     let w = c .before .before .before .before .call .ensures in
     succeeds (rw (le-leb _ _ h, call-counts (p .0) (went-whole w), ← (c .bytes-for .ensures))) (call-watched (p .0) (p .1) h w)
 

@@ -47,7 +47,9 @@ same-length c = search needs
 
 returns-2 : tie.Need-returns-2
 unfolding watchOutcome
-returns-2 c = rw (tested (c .before .before .before .before .before), tests-passed _ _ _ _ _ _ (tested (c .before .before .before .before .before)) .0 .accepted .named) (c .before .before .watch .ensures)
+returns-2 c =
+    let e = tested (c .before .before .before .before .before) in
+    rw (e, tests-passed _ _ _ _ _ _ e .0 .accepted .named) (c .before .before .watch .ensures)
 
 pub watch-sbox-spec : {M : Type 1} → statement M
 watch-sbox-spec =

@@ -1,0 +1,47 @@
+-- The masked S-box of a record of PRESENT's table, as the block needs it: it substitutes, and it hides every share.
+use mathlib.Core.Logic.{inl}
+use mathlib.Core.Path.{_≡_, refl, ap, subst, _∙_}
+use mathlib.Core.List.{List, [], _∷_}
+use Prim.Native.Nat.{ℕ, _^_, _≤_, _<_}
+use lib.ListN.{length, getD}
+use Rattle.xor.specs.Sum.{join}
+use Rattle.xor.proofs.Sum.{join-small}
+use Rattle.field.proofs.Inverses.{field-4}
+use Rattle.steps.specs.Shape.{Shaped}
+use Rattle.steps.specs.Sharing.{Sharing}
+use Rattle.steps.proofs.Shape.{shaped-weaken}
+use Rattle.decomposition.specs.Layout.{layout}
+use Rattle.decomposition.specs.Check.{recordForm}
+use Rattle.decomposition.proofs.Reading.{read-accepted}
+use Rattle.decomposition.proofs.Theorems.{check-computes}
+use Rattle.decomposition.proofs.Sizes.{layout-width}
+use Rattle.sbox.specs.Form.{formOf, Accepted}
+use Rattle.sbox.specs.Polynomials.{basisIn, solutionIn}
+use Rattle.sbox.proofs.Shape.{shaped-sbox}
+use Rattle.sbox.proofs.Coupling.{coupled-sbox}
+use Rattle.sbox.proofs.Record.{accepted-record, record-form}
+use Rattle.present.specs.Present.{table, substitute}
+use Rattle.present.specs.Masked.{Substitutes, Hides}
+use Rattle.cipher.specs.Box.{recordSbox}
+use Rattle.cipher.specs.Experiment.{PresentRecord, boxShape}
+
+module _ (r : List ℕ) (accepted : PresentRecord r) (s : ℕ) where
+  coefficients : Accepted 4 (basisIn 4 r) (solutionIn 4 r)
+  coefficients = accepted-record 4 r (read-accepted r 4 (accepted .read))
+
+  -- the form is PRESENT's S-box
+  form-substitutes : (x : ℕ) → x < 2 ^ 4 → formOf 4 (basisIn 4 r) (solutionIn 4 r) x ≡ substitute x
+  unfolding substitute
+  form-substitutes x h =
+      let computes = rw (read-accepted r 4 (accepted .read) .named) at (check-computes r table (accepted .checked)) in
+      record-form 4 (inl refl) r x ∙ computes .equal x (rw (layout-width 4) h)
+
+  pub substitutes : 0 < s → s ≤ 9 → Substitutes substitute s (boxShape s) (recordSbox s r)
+  unfolding boxShape
+  substitutes some nine x a h =
+      let small : x < 2 ^ 4 = subst (λ (v : ℕ). v < 2 ^ 4) (h .joins) (join-small 4 a (h .small)) in
+      let shaped = rw (coefficients .size) at (shaped-sbox (inl refl) s x (basisIn 4 r) (solutionIn 4 r) a some nine (coefficients .coefficients) h) in
+      shaped-weaken shaped (λ c g. rw (form-substitutes x small) at (g .1))
+
+  pub hides : (u : ℕ) → Hides u (recordSbox s r)
+  hides u a b h = coupled-sbox (field-4 .ring) s u (coefficients .coefficients) h

@@ -1,0 +1,165 @@
+-- The laws of calls: the arguments that pass the tests, and what a run hands back and writes.
+use mathlib.Core.Path.{_≡_, refl, sym, ap, subst, _∙_}
+use mathlib.Core.Bool.{Bool, true, false}
+use mathlib.Core.List.{List, [], _∷_}
+use Prim.Native.Nat.{ℕ, _+_, _-_, _*_, _^_, _≤_, _<_}
+use native.Mathlib.Nat.{mul-le-mul}
+use native.Mathlib.Omega.{arith}
+use borrow.Author.Tests.{eqb-true, leb-true}
+use lib.Dec.{leb, eqb}
+use lib.ListN.{length, getD, drop}
+use lib.Seq.{getD-drop}
+use Rattle.xor.specs.Sum.{join, Small}
+use Rattle.refusal.specs.Outcome.{done, refused, test}
+use Rattle.refusal.specs.Range.{oneTo}
+use Rattle.refusal.specs.Large.{firstLarge}
+use Rattle.refusal.proofs.Outcome.{passed, then-passed}
+use Rattle.refusal.proofs.Range.{one-to-range}
+use Rattle.refusal.proofs.Large.{all-small}
+use Rattle.field.proofs.Polynomial.{length-exponents-4}
+use Rattle.steps.specs.declared.counts.Counts.{Counts}
+use Rattle.steps.specs.Program.{result}
+use Rattle.steps.specs.Sharing.{share, Sharing}
+use Rattle.steps.specs.Fill.{tabulate}
+use Rattle.steps.specs.Tape.{elements, bytesFor}
+use Rattle.steps.specs.Machine.{zeroCounts, Ready, Went, Whole}
+use Rattle.steps.proofs.Machine.{went-watched}
+use Rattle.steps.proofs.Fill.{tabulate-same}
+use Rattle.steps.proofs.Tape.{elements-enough}
+use Rattle.decomposition.specs.Layout.{layout, sized, termsOf}
+use Rattle.decomposition.specs.Record.{readOutcome, Accepted}
+use Rattle.decomposition.specs.Check.{recordForm, firstDifference, checkOutcome}
+use Rattle.decomposition.proofs.Reading.{read-values, read-accepted}
+use Rattle.sbox.specs.Operations.{widthOf}
+use Rattle.sbox.proofs.Record.{accepted-record}
+use Rattle.sbox.proofs.Runs.{result-sharing, result-places}
+use Rattle.sbox.proofs.Calls.{all-below}
+use Rattle.present.specs.Present.{table}
+use Rattle.layers.specs.State.{shareAt, sharesOf, sharing, bytesOf}
+use Rattle.layers.proofs.View.{share-sharing}
+use Rattle.cipher.specs.Box.{recordSbox, Closed}
+use Rattle.cipher.specs.Experiment.{PresentRecord}
+use Rattle.cipher.specs.Figures.{blockProducts, blockDraws, blockSteps}
+use Rattle.cipher.specs.Operations.{callProgram, callCounts, computesTable, recordTests, argumentTests, callTests, blockOutput, watchOutput, Callable}
+
+-- ---- numbers stay small
+
+pub few-pairs : {s : ℕ} → s ≤ 9 → s * (s - 1) ≤ 72
+few-pairs h = mul-le-mul {n₂ = 9} {m₂ = 8} h (omega arith)
+
+pub few-squares : {s : ℕ} → s ≤ 9 → s * s ≤ 81
+few-squares h = mul-le-mul {n₂ = 9} {m₂ = 9} h h
+
+few-taken : (s : ℕ) → s ≤ 9 → (blockProducts < 2000) × (blockDraws s < 40000) × (blockSteps s < 1000000)
+unfolding blockProducts blockDraws blockSteps
+few-taken s h = (omega arith, omega (arith, few-pairs h), omega (arith, few-squares h))
+
+-- ---- the test of the table
+
+-- Check answers by the test, where Read accepts the record
+pub check-tests : (r : List ℕ) → readOutcome r ≡ done (4 ∷ [])
+    → checkOutcome r table ≡ test (computesTable r) 6 (firstDifference (recordForm (layout 4) r) table) (done [])
+unfolding checkOutcome computesTable layout sized table firstLarge
+check-tests r e = rw (e, read-accepted r 4 e .named)
+
+-- a last test that is not passed
+pub last-fails : (b : Bool) (number place : ℕ) {n p : ℕ} → test b number place (done []) ≡ refused n p → b ≡ false
+last-fails false number place e = refl
+last-fails true number place e = let z : _≡_ {A = ℕ} 0 1 = cc in absurd (omega arith)
+
+-- ---- a call that passes the tests
+
+pub tests-passed : (r : List ℕ) (s : ℕ) (key block random : List ℕ) (fits : Bool) {numbers : List ℕ}
+    → callTests r s key block random fits ≡ done numbers
+    → Callable r s key block random × (fits ≡ true)
+unfolding callTests recordTests argumentTests
+tests-passed r s key block random fits e =
+    let a = then-passed (recordTests r) _ e in
+    let b = then-passed (readOutcome r) _ (a .1) in
+    let c = passed (eqb (widthOf r) 4) 1 0 _ (b .2) in
+    let d = passed (computesTable r) 6 0 _ (c .1) in
+    let f = passed (oneTo 9 s) 7 0 _ (a .2) in
+    let g = passed (eqb (length key) (10 * s)) 2 0 _ (f .1) in
+    let h = passed (eqb (length block) (8 * s)) 2 0 _ (g .1) in
+    let i = passed (eqb (length random) (bytesFor 4 (blockDraws s))) 2 0 _ (h .1) in
+    let j = passed fits 2 0 _ (i .1) in
+    let l = elements 4 random in
+    let k = passed (leb (length l) (firstLarge 16 l)) 3 (0 + firstLarge 16 l) _ (j .1) in
+    let range = one-to-range 9 s (f .0) in
+    let four : widthOf r ≡ 4 = eqb-true (widthOf r) 4 (c .0) in (
+      record {
+        accepted = subst (λ (n : ℕ). Accepted n r) four (read-values r (b .1) .0);
+        computes = d .0;
+        some = range .0;
+        nine = range .1;
+        key-length = eqb-true (length key) (10 * s) (g .0);
+        block-length = eqb-true (length block) (8 * s) (h .0);
+        random-length = eqb-true (length random) (bytesFor 4 (blockDraws s)) (i .0);
+        random-small = all-small 16 l (omega arith) (leb-true (length l) (firstLarge 16 l) (k .0));
+      },
+      j .0,
+    )
+
+-- Read and Check accept a record that passes its tests
+pub present-record : (r : List ℕ) {numbers : List ℕ} → recordTests r ≡ done numbers → PresentRecord r
+unfolding recordTests
+present-record r e =
+    let a = then-passed (readOutcome r) _ e in
+    let b = passed (eqb (widthOf r) 4) 1 0 _ (a .2) in
+    let c = passed (computesTable r) 6 0 _ (b .1) in
+    let four : widthOf r ≡ 4 = eqb-true (widthOf r) 4 (b .0) in
+    let read : readOutcome r ≡ done (4 ∷ []) = a .1 ∙ ap done (sym (read-values r (a .1) .1) ∙ ap (λ (n : ℕ). n ∷ []) four) in
+    record { read = read; checked = check-tests r read ∙ ap (λ (b : Bool). test b 6 (firstDifference (recordForm (layout 4) r) table) (done [])) (c .0) }
+
+-- ---- its run
+
+module _ {r : List ℕ} {s : ℕ} {key block random : List ℕ} (a : Callable r s key block random) where
+  -- the record is as long as the code asks
+  pub record-room : 33 ≤ length r
+  unfolding layout sized termsOf
+  record-room = omega (arith, a .accepted .whole, length-exponents-4)
+
+  -- the S-box takes sharings of nibbles to sharings of nibbles
+  pub call-closed : Closed s (elements 4 random) (recordSbox s r)
+  call-closed =
+      let tape = elements 4 random in
+      let coefficients = accepted-record 4 r (a .accepted) in
+      let small : (d : ℕ) → Small 4 (drop d tape) = λ d i. rw (getD-drop d tape i 0) (a .random-small (d + i)) in
+      record {
+        places = λ x d h. result-places coefficients s (join x) x (drop d tape) (a .some) (a .nine) h (small d);
+        nibbles = λ x d h. let k = result-sharing coefficients s (join x) x (drop d tape) (a .some) (a .nine) h (small d) in
+            record { small = k .small; past = k .past; joins = refl };
+      }
+
+  pub call-ready : {watch vs : List ℕ} → length watch ≡ length vs
+      → Ready blockProducts (blockDraws s) (blockSteps s) zeroCounts (elements 4 random) watch vs
+  call-ready e =
+      let few = few-taken s (a .nine) in
+      let enough = elements-enough 4 random (blockDraws s) (a .random-length) in
+      record { products-fit = omega arith; draws-fit = omega arith; steps-fit = omega arith; enough = omega arith; places = e }
+
+  -- what a call's run hands back and writes
+  pub call-counts : {x : List ℕ} {c : Counts} → Whole (elements 4 random) (callProgram r s key block) x c
+      → callCounts r s key block random ≡ c .products ∷ bytesFor 4 (c .random) ∷ c .steps ∷ []
+  unfolding callCounts
+  call-counts w = rw (← (w .products-are), ← (w .draws-are), ← (w .steps-are))
+
+  pub call-output : (l : List ℕ) {c : Counts} → Whole (elements 4 random) (callProgram r s key block) (sharing 8 s l) c
+      → bytesOf 8 (sharesOf 8 s l) ≡ blockOutput r s key block random
+  unfolding blockOutput sharesOf
+  call-output l w =
+      ap (bytesOf 8)
+      (tabulate-same s (shareAt 8 l) (share (result (callProgram r s key block) (elements 4 random)))
+      (λ i h. sym (share-sharing 8 s l i (a .nine) h) ∙ ap (λ (x : List ℕ). share x i) (w .result-is)))
+
+  -- what a watch leaves, where each number of the list is that of a step
+  some-steps : 0 < blockSteps s
+  unfolding blockSteps
+  some-steps = omega arith
+
+  pub call-watched : {list vs x vs′ : List ℕ} {c : Counts} → length list ≡ length vs → length list ≤ firstLarge (blockSteps s) list
+      → Went blockProducts (blockDraws s) (blockSteps s) (elements 4 random) list (callProgram r s key block) zeroCounts vs x c vs′
+      → vs′ ≡ watchOutput r s key block random list
+  unfolding watchOutput
+  call-watched {list} e below w =
+      went-watched w e (all-below (blockSteps s) list (all-small (blockSteps s) list some-steps below))

@@ -1,0 +1,9 @@
+pub mod Parts
+pub mod Figures
+pub mod Runs
+pub mod Nibbles
+pub mod Calls
+pub mod Box
+pub mod Theorems
+pub mod Output
+pub mod Answers

@@ -1,0 +1,62 @@
+-- `enciphering::block` meets its contract: by what the tests come to.
+use mathlib.Core.Path.{_≡_, sym, ap, _∙_}
+use mathlib.Core.List.{[]}
+use Prim.Native.Nat.{_*_}
+use borrow.Author.Tests.{eqb-true}
+use lib.Dec.{eqb}
+use lib.ListN.{length}
+use Rattle.refusal.specs.Outcome.{done}
+use Rattle.refusal.proofs.Outcome.{refuses}
+use Rattle.cipher.specs.Operations.{testedReport, callTests, blockOutcome}
+use Rattle.cipher.proofs.Calls.{tests-passed}
+use borrow.Author.Needs.{needs}
+use Rattle.cipher.proofs.enciphering.block.Statement.{statement}
+use Rattle.cipher.proofs.enciphering.block.Tie as tie
+
+mul-fits : tie.Need-mul-fits
+mul-fits c = search needs
+
+-- where the tests are passed
+tested : (c : tie.After-enum-told) → let a = c .before .before .before .before .before .before .before .before .args in
+    callTests (a .rec .now) (a .s) (a .key .now) (a .block .now) (a .random .now) (eqb (length (a .out .now)) (8 * a .s)) ≡ done []
+tested c = sym (c .before .before .call-tests .ensures) ∙ ap testedReport (c .enum-told .given .1)
+
+call-tests-requires : tie.Need-call-tests-requires
+call-tests-requires c κs = search needs
+
+enum-known-tested : tie.Need-enum-known-tested
+enum-known-tested c = search needs
+
+enum-told : tie.Need-enum-told
+enum-told c = search needs
+
+encipher-requires : tie.Need-encipher-requires
+encipher-requires c κs =
+    let p = tests-passed _ _ _ _ _ _ (tested (c .before)) in
+    (p .0, eqb-true _ _ (p .1))
+
+returns : tie.Need-returns
+unfolding blockOutcome
+returns c =
+    let e = sym (c .before .before .before .call-tests .ensures) ∙ ap testedReport (c .before .tested .given .1) in
+    refuses (rw e)
+
+same-length : tie.Need-same-length
+same-length c = search needs
+
+returns-2 : tie.Need-returns-2
+unfolding blockOutcome
+returns-2 c = rw (tested (c .before .before .before .before)) (c .before .before .encipher .ensures)
+
+pub block-spec : {M : Type 1} → statement M
+block-spec =
+    tie.close
+    (tie.spec
+    mul-fits
+    call-tests-requires
+    enum-known-tested
+    enum-told
+    encipher-requires
+    returns
+    same-length
+    returns-2)

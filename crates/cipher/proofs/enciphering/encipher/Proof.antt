@@ -1,0 +1,55 @@
+-- `enciphering::encipher` meets its contract: a run under an empty watch list, whose result is copied out.
+use mathlib.Core.Path.{_∙_}
+use native.Mathlib.Omega.{arith}
+use Rattle.refusal.proofs.Outcome.{succeeds}
+use Rattle.steps.proofs.Machine.{went-whole}
+use Rattle.cipher.specs.Operations.{callProgram}
+use Rattle.cipher.proofs.Calls.{record-room, call-closed, call-ready, call-counts, call-output}
+use borrow.Author.Needs.{needs}
+use Rattle.cipher.proofs.enciphering.encipher.Statement.{statement}
+use Rattle.cipher.proofs.enciphering.encipher.Tie as tie
+
+slice-aggregate-encrypt : tie.Need-slice-aggregate-encrypt
+slice-aggregate-encrypt c = search needs
+
+slice-aggregate-encrypt-2 : tie.Need-slice-aggregate-encrypt-2
+slice-aggregate-encrypt-2 c = search needs
+
+encrypt-requires : tie.Need-encrypt-requires
+encrypt-requires c κs =
+    let p = c .before .before .before .before .before .before .before .pre .0 in
+    ((p .some, p .nine, record-room p, p .key-length, p .block-length), (call-closed p, call-ready p (search needs)))
+
+slice-aggregate-store : tie.Need-slice-aggregate-store
+slice-aggregate-store c = search needs
+
+store-requires : tie.Need-store-requires
+store-requires c κs =
+    let p = c .before .before .before .before .before .before .before .before .before .before .before .before .pre in
+    (p .1, omega (arith, p .0 .nine, slice-aggregate-store (c .before)))
+
+bytes-for-requires : tie.Need-bytes-for-requires
+bytes-for-requires c κs = search needs
+
+same-length : tie.Need-same-length
+same-length c = search needs
+
+returns : tie.Need-returns
+unfolding callProgram
+returns c =
+    let p = c .before .before .before .before .before .before .before .before .before .before .before .before .before .before .before .before .before .pre in
+    let w = went-whole (c .before .before .before .before .before .before .before .before .before .encrypt .ensures) in
+    succeeds (rw (call-counts (p .0) w, ← (c .bytes-for .ensures))) (c .before .before .before .before .store .ensures ∙ call-output (p .0) _ w)
+
+pub encipher-spec : {M : Type 1} → statement M
+encipher-spec =
+    tie.close
+    (tie.spec
+    slice-aggregate-encrypt
+    slice-aggregate-encrypt-2
+    encrypt-requires
+    slice-aggregate-store
+    store-requires
+    bytes-for-requires
+    same-length
+    returns)

@@ -1,0 +1,50 @@
+-- `encryption::encrypt` meets its contract: the state is loaded, the rounds run, and the last round key is added.
+use mathlib.Core.Path.{sym}
+use Rattle.steps.specs.Loop.{each}
+use Rattle.present.specs.Masked.{maskedEncrypt}
+use Rattle.layers.specs.State.{sharing}
+use Rattle.cipher.specs.Figures.{roundProducts, roundDraws, roundSteps}
+use Rattle.cipher.proofs.Parts.{ready-counts, went-counts, ready-first, ready-next, went-then}
+use Rattle.cipher.proofs.Figures.{block-products, block-draws, block-steps}
+use borrow.Author.Needs.{needs}
+use Rattle.cipher.proofs.encryption.encrypt.Statement.{statement}
+use Rattle.cipher.proofs.encryption.encrypt.Tie as tie
+
+load-requires : tie.Need-load-requires
+load-requires c κs = search needs
+
+rounds-requires : tie.Need-rounds-requires
+rounds-requires c κs =
+    let s = c .before .before .before .before .before .before .before .before .args .s in
+    let h = c .before .before .before .before .before .before .before .before .pre in
+    let y = ready-counts (h .1 .1) block-products (block-draws s) (block-steps s) in (
+      (h .0 .0, h .0 .1, h .0 .2),
+      (
+        h .1 .0,
+        rw (c .before .load .ensures .nothing-taken)
+            (ready-first (each roundProducts 32 1) 0 (each (roundDraws s) 32 1) 0 (each (roundSteps s) 32 1) (each 16 s 0) y),
+      ),
+    )
+
+add-round-key-requires : tie.Need-add-round-key-requires
+add-round-key-requires c κs =
+    let s = c .before .before .before .before .before .before .before .before .before .before .before .before .before .before .before .before .args .s in
+    let h = c .before .before .before .before .before .before .before .before .before .before .before .before .before .before .before .before .pre in
+    let y = ready-counts (h .1 .1) block-products (block-draws s) (block-steps s) in
+    let w = rw (c .before .before .before .before .before .before .before .before .before .load .ensures .nothing-taken) at (c .before .before .before .before .before .before .before .rounds .ensures) in
+    (h .0 .1, ready-next 0 0 (each 16 s 0) y w (search needs))
+
+same-length : tie.Need-same-length
+same-length c = search needs
+
+returns : tie.Need-returns
+unfolding maskedEncrypt sharing
+returns c =
+    let s = c .before .before .before .before .before .before .before .before .before .before .before .before .before .before .before .before .before .before .before .args .s in
+    let l = c .before .before .before .before .before .before .before .before .before .before .before .before .load .ensures in
+    let w = rw (l .nothing-taken, l .key-loaded s, l .block-loaded s) at (c .before .before .before .before .before .before .before .before .before .before .rounds .ensures) in
+    went-counts (went-then _ w (c .before .before .add-round-key .ensures)) (sym block-products) (sym (block-draws s)) (sym (block-steps s))
+
+pub encrypt-spec : {M : Type 1} → statement M
+encrypt-spec =
+    tie.close (tie.spec load-requires rounds-requires add-round-key-requires same-length returns)

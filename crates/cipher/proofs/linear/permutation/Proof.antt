@@ -1,0 +1,23 @@
+-- `linear::permutation` meets its contract.
+use Rattle.present.specs.Masked.{maskedPermute}
+use Rattle.cipher.proofs.Runs.{recorded-went}
+use borrow.Author.Needs.{needs}
+use Rattle.cipher.proofs.linear.permutation.Statement.{statement}
+use Rattle.cipher.proofs.linear.permutation.Tie as tie
+
+permute-shares-requires : tie.Need-permute-shares-requires
+permute-shares-requires c κs = search needs
+
+record-shares-requires : tie.Need-record-shares-requires
+record-shares-requires c κs = search needs
+
+same-length : tie.Need-same-length
+same-length c = search needs
+
+returns : tie.Need-returns
+unfolding maskedPermute
+returns c = recorded-went 16 _ _ _ (c .before .before .record-shares .ensures) (c .before .before .before .before .before .before .permute-shares .ensures)
+
+pub permutation-spec : {M : Type 1} → statement M
+permutation-spec =
+    tie.close (tie.spec permute-shares-requires record-shares-requires same-length returns)

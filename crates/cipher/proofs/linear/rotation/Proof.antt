@@ -1,0 +1,23 @@
+-- `linear::rotation` meets its contract.
+use Rattle.present.specs.Masked.{maskedRotate}
+use Rattle.cipher.proofs.Runs.{recorded-went}
+use borrow.Author.Needs.{needs}
+use Rattle.cipher.proofs.linear.rotation.Statement.{statement}
+use Rattle.cipher.proofs.linear.rotation.Tie as tie
+
+rotate-keys-requires : tie.Need-rotate-keys-requires
+rotate-keys-requires c κs = search needs
+
+record-shares-requires : tie.Need-record-shares-requires
+record-shares-requires c κs = search needs
+
+same-length : tie.Need-same-length
+same-length c = search needs
+
+returns : tie.Need-returns
+unfolding maskedRotate
+returns c = recorded-went 20 _ _ _ (c .before .before .record-shares .ensures) (c .before .before .before .before .before .before .rotate-keys .ensures)
+
+pub rotation-spec : {M : Type 1} → statement M
+rotation-spec =
+    tie.close (tie.spec rotate-keys-requires record-shares-requires same-length returns)

@@ -1,0 +1,72 @@
+-- `rounds::rounds` meets its contract: a loop over the rounds.
+use Prim.Native.Nat.{_-_}
+use Rattle.steps.specs.Tape.{elements}
+use Rattle.steps.specs.Loop.{Going, each}
+use Rattle.steps.proofs.Loop.{going, going-ready, going-on, gone, each-turn, each-end}
+use Rattle.present.specs.Present.{size80}
+use Rattle.present.specs.Masked.{maskedRound}
+use Rattle.cipher.specs.Box.{recordSbox}
+use Rattle.cipher.specs.Rounds.{sharings}
+use Rattle.cipher.specs.Figures.{roundProducts, roundDraws, roundSteps}
+use borrow.Author.Needs.{needs}
+use Rattle.cipher.proofs.rounds.rounds.Statement.{statement}
+use Rattle.cipher.proofs.rounds.rounds.Tie as tie
+
+abbrev Inv-loop : tie.InvT-loop
+Inv-loop s rec random watch values₀ t₀ r₀ values t r =
+    Going (each roundProducts 32) (each (roundDraws s) 32) (each (roundSteps s) 32) (elements 4 random) watch (maskedRound (recordSbox s rec) size80 s) 1 32
+    (sharings s t₀) (t₀ .counts) values₀ r (sharings s t) (t .counts) values
+
+abbrev μ-loop : tie.MeasureT-loop
+μ-loop s rec random watch values₀ t₀ r₀ values t r = 32 - r
+
+loop-holds : tie.Need-loop-holds Inv-loop μ-loop
+loop-holds c = search going
+
+round-requires : tie.Need-round-requires Inv-loop μ-loop
+round-requires c κs =
+    let s = c .before .before .before .before .before .before .before .args .s in
+    let h = c .before .loop-test .taken in
+    let p = c .before .before .before .before .before .before .before .pre in (
+      (p .0 .0, p .0 .1, h, p .0 .2),
+      (
+        p .1 .0,
+        going-ready (c .before .before .loop .inv) (p .1 .1) (each-turn roundProducts h) (each-turn (roundDraws s) h) (each-turn (roundSteps s) h),
+      ),
+    )
+
+add-r : tie.Need-add-r Inv-loop μ-loop
+add-r c = search needs
+
+loop-less : tie.Need-loop-less Inv-loop μ-loop
+loop-less c = search needs
+
+loop-again : tie.Need-loop-again Inv-loop μ-loop
+loop-again c =
+    let s = c .before .before .before .before .before .before .before .before .before .before .args .s in
+    let h = c .before .before .before .before .loop-test .taken in
+    going-on (c .before .before .before .before .before .loop .inv) h (c .before .before .round .ensures) (search needs)
+    (each-turn roundProducts h) (each-turn (roundDraws s) h) (each-turn (roundSteps s) h)
+
+same-length : tie.Need-same-length Inv-loop μ-loop
+same-length c = search needs
+
+returns : tie.Need-returns Inv-loop μ-loop
+returns c =
+    let s = c .before .before .before .before .before .before .args .s in
+    let h = c .loop-test .left in
+    gone (c .before .loop .inv) h (each-end roundProducts h) (each-end (roundDraws s) h) (each-end (roundSteps s) h)
+
+pub rounds-spec : {M : Type 1} → statement M
+rounds-spec =
+    tie.close
+    (tie.spec
+    Inv-loop
+    μ-loop
+    loop-holds
+    round-requires
+    add-r
+    loop-less
+    loop-again
+    same-length
+    returns)

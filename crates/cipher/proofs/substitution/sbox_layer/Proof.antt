@@ -1,0 +1,71 @@
+-- `substitution::sbox_layer` meets its contract: a loop over the nibbles.
+use Prim.Native.Nat.{_-_}
+use Rattle.steps.specs.Tape.{elements}
+use Rattle.steps.specs.Loop.{Going, each}
+use Rattle.steps.proofs.Loop.{going, going-ready, going-on, gone, each-turn, each-end}
+use Rattle.sbox.specs.Figures.{sboxProducts, sboxDraws, sboxSteps}
+use Rattle.present.specs.Masked.{maskedNibble, maskedSboxLayer}
+use Rattle.layers.specs.State.{sharing}
+use Rattle.cipher.specs.Box.{recordSbox}
+use borrow.Author.Needs.{needs}
+use Rattle.cipher.proofs.substitution.sbox_layer.Statement.{statement}
+use Rattle.cipher.proofs.substitution.sbox_layer.Tie as tie
+
+abbrev Inv-loop : tie.InvT-loop
+Inv-loop s rec random watch values₀ block₀ n₀ k₀ values block n k =
+    Going (each (sboxProducts 4) 16) (each (sboxDraws 4 s) 16) (each (sboxSteps 4 s) 16) (elements 4 random) watch (maskedNibble (recordSbox s rec)) 0 16
+    (sharing 8 s block₀) n₀ values₀ k (sharing 8 s block) n values
+
+abbrev μ-loop : tie.MeasureT-loop
+μ-loop s rec random watch values₀ block₀ n₀ k₀ values block n k = 16 - k
+
+loop-holds : tie.Need-loop-holds Inv-loop μ-loop
+loop-holds c = search going
+
+sbox-nibble-requires : tie.Need-sbox-nibble-requires Inv-loop μ-loop
+sbox-nibble-requires c κs =
+    let a = c .before .before .before .before .before .before .before .before .args in
+    let h = c .before .before .loop-test .taken in (
+      search needs,
+      (
+        c .before .before .before .before .before .before .before .before .pre .1 .0,
+        going-ready (c .before .before .before .loop .inv) (search needs) (each-turn (sboxProducts 4) h) (each-turn (sboxDraws 4 (a .s)) h) (each-turn (sboxSteps 4 (a .s)) h),
+      ),
+    )
+
+add-k : tie.Need-add-k Inv-loop μ-loop
+add-k c = search needs
+
+loop-less : tie.Need-loop-less Inv-loop μ-loop
+loop-less c = search needs
+
+loop-again : tie.Need-loop-again Inv-loop μ-loop
+loop-again c =
+    let a = c .before .before .before .before .before .before .before .before .before .before .before .args in
+    let h = c .before .before .before .before .before .loop-test .taken in
+    going-on (c .before .before .before .before .before .before .loop .inv) h (c .before .before .sbox-nibble .ensures) (search needs)
+    (each-turn (sboxProducts 4) h) (each-turn (sboxDraws 4 (a .s)) h) (each-turn (sboxSteps 4 (a .s)) h)
+
+same-length : tie.Need-same-length Inv-loop μ-loop
+same-length c = search needs
+
+returns : tie.Need-returns Inv-loop μ-loop
+unfolding maskedSboxLayer
+returns c =
+    let a = c .before .before .before .before .before .before .args in
+    let h = c .loop-test .left in
+    gone (c .before .loop .inv) h (each-end (sboxProducts 4) h) (each-end (sboxDraws 4 (a .s)) h) (each-end (sboxSteps 4 (a .s)) h)
+
+pub sbox-layer-spec : {M : Type 1} → statement M
+sbox-layer-spec =
+    tie.close
+    (tie.spec
+    Inv-loop
+    μ-loop
+    loop-holds
+    sbox-nibble-requires
+    add-k
+    loop-less
+    loop-again
+    same-length
+    returns)

@@ -1,0 +1,46 @@
+-- `substitution::sbox_nibble` meets its contract: the column, its S-box, and the column put back.
+use mathlib.Core.Path.{refl}
+use mathlib.Core.Logic.{inl}
+use Rattle.layers.specs.State.{sharing}
+use Rattle.cipher.specs.Box.{recordSbox}
+use Rattle.cipher.proofs.Nibbles.{record-bytes, closed-result, nibble-substituted}
+use borrow.Author.Needs.{needs}
+use Rattle.cipher.proofs.substitution.sbox_nibble.Statement.{statement}
+use Rattle.cipher.proofs.substitution.sbox_nibble.Tie as tie
+
+column-requires : tie.Need-column-requires
+column-requires c κs = search needs
+
+run-requires : tie.Need-run-requires
+run-requires c κs = (inl refl, ((search needs, record-bytes (search needs)), search needs))
+
+replace-column-requires : tie.Need-replace-column-requires
+replace-column-requires c κs =
+    let a = c .before .before .before .before .before .before .before .before .before .before .before .before .before .before .before .args in (
+      search needs,
+      closed-result (recordSbox (a .s) (a .rec .now)) (a .k) (a .w) (a .s) (a .l .now) (c .before .before .before .before .before .before .before .before .before .before .before .before .before .before .before .pre .1 .0) (search needs)
+          (c .before .before .before .before .before .before .before .before .column .ensures) (c .before .before .before .before .before .run .ensures),
+    )
+
+same-length : tie.Need-same-length
+same-length c = search needs
+
+same-length-2 : tie.Need-same-length-2
+same-length-2 c = search needs
+
+returns : tie.Need-returns
+returns c =
+    let a = c .before .before .before .before .before .before .before .before .before .before .before .before .before .before .before .before .before .before .before .args in
+    nibble-substituted (recordSbox (a .s) (a .rec .now)) (a .k) (sharing (a .w) (a .s) (a .l .now)) _ _ _
+    (c .before .before .before .before .before .before .before .before .before .before .before .before .column .ensures) (c .before .before .before .before .before .before .before .before .before .run .ensures) (c .before .before .before .replace-column .ensures)
+
+pub sbox-nibble-spec : {M : Type 1} → statement M
+sbox-nibble-spec =
+    tie.close
+    (tie.spec
+    column-requires
+    run-requires
+    replace-column-requires
+    same-length
+    same-length-2
+    returns)

@@ -1,0 +1,25 @@
+-- The figures of a masked block of s shares: how many masked products, random elements and steps there are.
+use Prim.Native.Nat.{ℕ, _+_, _-_, _*_}
+use Rattle.sbox.specs.Figures.{sboxProducts, sboxDraws, sboxSteps}
+
+-- ---- of a round: 17 S-boxes, and 52 nibbles of each share and two of share 0 that are recorded
+
+unfoldable pub roundProducts : ℕ
+roundProducts = 17 * sboxProducts 4
+
+unfoldable pub roundDraws : ℕ → ℕ
+roundDraws s = 17 * sboxDraws 4 s
+
+unfoldable pub roundSteps : ℕ → ℕ
+roundSteps s = 52 * s + 17 * sboxSteps 4 s + 2
+
+-- ---- of a block
+
+unfoldable pub blockProducts : ℕ
+blockProducts = 1054
+
+unfoldable pub blockDraws : ℕ → ℕ
+blockDraws s = 527 * (s * (s - 1))
+
+unfoldable pub blockSteps : ℕ → ℕ
+blockSteps s = 31 * (52 * s + 17 * (7 * (s * s) + 50 * s) + 2) + 16 * s

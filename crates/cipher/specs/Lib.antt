@@ -1,0 +1,5 @@
+pub mod Box
+pub mod Rounds
+pub mod Figures
+pub mod Operations
+pub mod Experiment

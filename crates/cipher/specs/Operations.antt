@@ -1,0 +1,124 @@
+-- The operations Block and Watch block. Shares lie one after the other, share 0 first: 10 bytes each of a key, 8 each of a block.
+use mathlib.Core.Path.{_≡_}
+use mathlib.Core.Bool.{Bool, true, _&&_}
+use mathlib.Core.List.{List, [], _∷_}
+use Prim.Native.Nat.{ℕ, _*_, _≤_, _<_}
+use lib.Dec.{leb, eqb}
+use lib.ListN.{length}
+use Rattle.xor.specs.Sum.{Small}
+use Rattle.refusal.specs.Outcome.{Outcome, done, refused, test, andThen}
+use Rattle.refusal.specs.Range.{oneTo}
+use Rattle.refusal.specs.Large.{testBelow}
+use Rattle.steps.specs.Program.{Run, result, trace, draws, products}
+use Rattle.steps.specs.Watch.{watched}
+use Rattle.steps.specs.Sharing.{share}
+use Rattle.steps.specs.Fill.{tabulate}
+use Rattle.steps.specs.Tape.{elements, bytesFor}
+use Rattle.decomposition.specs.Layout.{layout}
+use Rattle.decomposition.specs.Record.{readOutcome, Accepted}
+use Rattle.decomposition.specs.Check.{recordForm, firstDifference}
+use Rattle.sbox.specs.Operations.{widthOf, testSteps}
+use Rattle.present.specs.Present.{table}
+use Rattle.layers.specs.State.{sharesOf, bytesOf}
+use Rattle.cipher.specs.Box.{blockProgram}
+use Rattle.cipher.specs.Figures.{blockDraws, blockSteps}
+use Rattle.cipher.specs.declared.checking.Tested.{Tested}
+use Rattle.cipher.specs.declared.checking.Tested.the-variants.{Passed, Refused}
+use Rattle.cipher.specs.declared.enciphering.BlockAnswer.{BlockAnswer}
+use Rattle.cipher.specs.declared.enciphering.BlockAnswer.the-variants.{Done as Block·Done, Refused as Block·Refused}
+use Rattle.cipher.specs.declared.watching.WatchAnswer.{WatchAnswer}
+use Rattle.cipher.specs.declared.watching.WatchAnswer.the-variants.{Done as Watch·Done, Refused as Watch·Refused}
+
+-- ---- the steps of a call
+
+-- the masked block of the shares, by the S-box of the record
+unfoldable pub callProgram : List ℕ → ℕ → List ℕ → List ℕ → Run (List ℕ)
+callProgram r s key block = blockProgram r s (sharesOf 10 s key) (sharesOf 8 s block)
+
+-- what a call hands back: how many masked products, random bytes and steps the program has
+unfoldable pub callCounts : List ℕ → ℕ → List ℕ → List ℕ → List ℕ → List ℕ
+callCounts r s key block random =
+    length (products 0 (callProgram r s key block) (elements 4 random))
+    ∷ bytesFor 4 (length (draws (callProgram r s key block) (elements 4 random)))
+    ∷ length (trace (callProgram r s key block) (elements 4 random))
+    ∷ []
+
+-- ---- the tests of both operations
+
+-- does the form of a record of width 4 compute the table of PRESENT's S-box?
+unfoldable pub computesTable : List ℕ → Bool
+computesTable r = leb (length table) (firstDifference (recordForm (layout 4) r) table)
+
+-- those of the record: Read's; 1 a width other than 4; 6 another table than PRESENT's
+unfoldable pub recordTests : List ℕ → Outcome
+recordTests r =
+    andThen (readOutcome r)
+    (test (eqb (widthOf r) 4) 1 0
+    (test (computesTable r) 6 0
+    (done [])))
+
+-- those of the arguments, `fits` saying whether what is lent for output has its length: 7 a share count not 1 to 9; 2 a length;
+-- 3 a random element too large, its place that among the random elements
+unfoldable pub argumentTests : ℕ → List ℕ → List ℕ → List ℕ → Bool → Outcome
+argumentTests s key block random fits =
+    test (oneTo 9 s) 7 0
+    (test (eqb (length key) (10 * s)) 2 0
+    (test (eqb (length block) (8 * s)) 2 0
+    (test (eqb (length random) (bytesFor 4 (blockDraws s))) 2 0
+    (test fits 2 0
+    (testBelow 16 0 (elements 4 random)
+    (done []))))))
+
+unfoldable pub callTests : List ℕ → ℕ → List ℕ → List ℕ → List ℕ → Bool → Outcome
+callTests r s key block random fits = andThen (recordTests r) (argumentTests s key block random fits)
+
+-- ---- Block (record, s, key shares, block shares, random, out)
+
+-- the outcome, by the length of out
+unfoldable pub blockOutcome : List ℕ → ℕ → List ℕ → List ℕ → List ℕ → ℕ → Outcome
+blockOutcome r s key block random out =
+    andThen (callTests r s key block random (eqb out (8 * s))) (done (callCounts r s key block random))
+
+-- what it writes: the bytes of shares 0 to s - 1 of the result
+unfoldable pub blockOutput : List ℕ → ℕ → List ℕ → List ℕ → List ℕ → List ℕ
+blockOutput r s key block random = bytesOf 8 (tabulate s (share (result (callProgram r s key block) (elements 4 random))))
+
+-- what each answer stands for
+abbrev pub blockReport : BlockAnswer → Outcome
+blockReport (Block·Done products random steps) = done (products ∷ random ∷ steps ∷ [])
+blockReport (Block·Refused number place) = refused number place
+
+-- ---- Watch block (record, s, key shares, block shares, random, list, values)
+
+-- the outcome, by the length of values: the list has as many numbers, and at most 64
+unfoldable pub watchOutcome : List ℕ → ℕ → List ℕ → List ℕ → List ℕ → List ℕ → ℕ → Outcome
+watchOutcome r s key block random list values =
+    andThen (callTests r s key block random (eqb (length list) values && leb (length list) 64))
+    (testSteps (blockSteps s) list
+    (done (callCounts r s key block random)))
+
+-- what it writes: the value of the step named at each place of the list
+unfoldable pub watchOutput : List ℕ → ℕ → List ℕ → List ℕ → List ℕ → List ℕ → List ℕ
+watchOutput r s key block random list = watched list (trace (callProgram r s key block) (elements 4 random))
+
+-- what each answer stands for
+abbrev pub watchReport : WatchAnswer → Outcome
+watchReport (Watch·Done products random steps) = done (products ∷ random ∷ steps ∷ [])
+watchReport (Watch·Refused number place) = refused number place
+
+-- ---- where the tests are passed
+
+abbrev pub testedReport : Tested → Outcome
+testedReport Passed = done []
+testedReport (Refused number place) = refused number place
+
+-- a call with a record of PRESENT's S-box and arguments that pass the tests
+pub record Callable (r : List ℕ) (s : ℕ) (key block random : List ℕ) : Type 0 where
+  pub accepted : Accepted 4 r
+  pub computes : computesTable r ≡ true
+  pub some : 0 < s
+  pub nine : s ≤ 9
+  pub key-length : length key ≡ 10 * s
+  pub block-length : length block ≡ 8 * s
+  pub random-length : length random ≡ bytesFor 4 (blockDraws s)
+  pub random-small : Small 4 (elements 4 random)

@@ -1,0 +1,70 @@
+// The whole masked block.
+ghost use Prim.Native.Nat.{_*_, _<_, _≤_};
+ghost use mathlib.Core.Path.{_≡_};
+ghost use lib.ListN.{length};
+ghost use Rattle.steps.specs.Tape.{elements};
+ghost use Rattle.steps.specs.Machine.{zeroCounts, Ready, Went};
+ghost use Rattle.present.specs.Present.{size80};
+ghost use Rattle.present.specs.Masked.{maskedEncrypt};
+ghost use Rattle.layers.specs.State.{sharesOf, sharing};
+ghost use Rattle.cipher.specs.Box.{recordSbox, Closed};
+ghost use Rattle.cipher.specs.Rounds.{Loaded};
+ghost use Rattle.cipher.specs.Figures.{blockProducts, blockDraws, blockSteps};
+use crate::linear::add_round_key;
+use crate::rounds::RoundState;
+use crate::rounds::rounds;
+use steps::Counts;
+
+// The sharing of a block, with what the run has taken.
+pub struct Encrypted {
+    pub block: [u8; 72],
+    pub counts: Counts,
+}
+
+// The state before round 1: the shares of a key and of a block, 0 past them.
+fn load(key: &[u8], block: &[u8]) -> RoundState
+    requires { ⌜ (length (now key) ≤ 90) × (length (now block) ≤ 72) ⌝ }
+    ensures { λ r. ⌜ Loaded (now (key .entry)) (now (block .entry)) r ⌝ }
+{
+    let mut k = [0u8; 90];
+    let mut b = [0u8; 72];
+    layers::copy(key, &mut k);
+    layers::copy(block, &mut b);
+    RoundState {
+        block: b,
+        key: k,
+        counts: Counts {
+            products: 0,
+            random: 0,
+            steps: 0,
+        },
+    }
+}
+
+// The masked block of the shares of a key, 10 bytes each, and of a block, 8 bytes each.
+pub fn encrypt(
+    s: usize,
+    rec: &[u8],
+    key: &[u8],
+    block: &[u8],
+    random: &[u8],
+    watch: &[u32],
+    values: &mut [u8],
+) -> Encrypted
+    requires { ⌜ (0 < s) × (s ≤ 9) × (33 ≤ length (now rec)) × (length (now key) ≡ 10 * s) × (length (now block) ≡ 8 * s) ⌝ }
+    requires { ⌜ Closed s (elements 4 (now random)) (recordSbox s (now rec)) ⌝ }
+    requires { ⌜ Ready blockProducts (blockDraws s) (blockSteps s) zeroCounts (elements 4 (now random)) (now watch) (now values) ⌝ }
+    ensures { λ r. ⌜ Went blockProducts (blockDraws s) (blockSteps s) (elements 4 (now (random .entry))) (now (watch .entry))
+        (maskedEncrypt (recordSbox s (now (rec .entry))) size80 s (sharesOf 10 s (now (key .entry))) (sharesOf 8 s (now (block .entry))))
+        zeroCounts (now (values .entry)) (sharing 8 s (r .block)) (r .counts) (now (values .exit)) ⌝ }
+{
+    let t = load(key, block);
+    let t = rounds(s, rec, random, watch, &mut *values, t);
+    let k = t.key;
+    let mut b = t.block;
+    let n = add_round_key(s, &k, random, watch, values, &mut b, t.counts);
+    Encrypted {
+        block: b,
+        counts: n,
+    }
+}

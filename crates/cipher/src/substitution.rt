@@ -1,0 +1,63 @@
+// The S-box on the nibbles of a block and of a key.
+ghost use Prim.Native.Nat.{_*_, _<_, _≤_};
+ghost use lib.ListN.{length};
+ghost use Rattle.steps.specs.Tape.{elements};
+ghost use Rattle.steps.specs.Machine.{Ready, Went};
+ghost use Rattle.steps.specs.Loop.{each};
+ghost use Rattle.sbox.specs.Figures.{sboxProducts, sboxDraws, sboxSteps};
+ghost use Rattle.present.specs.Masked.{maskedNibble, maskedSboxLayer};
+ghost use Rattle.layers.specs.State.{sharing};
+ghost use Rattle.cipher.specs.Box.{recordSbox, Closed};
+use steps::Counts;
+
+// The S-box on nibble k of each share, of w bytes.
+pub fn sbox_nibble(
+    w: usize,
+    s: usize,
+    k: usize,
+    rec: &[u8],
+    random: &[u8],
+    watch: &[u32],
+    values: &mut [u8],
+    l: &mut [u8],
+    n: Counts,
+) -> Counts
+    requires { ⌜ (s ≤ 9) × (k < 2 * w) × (w * s ≤ length (now l)) × (33 ≤ length (now rec)) ⌝ }
+    requires { ⌜ Closed s (elements 4 (now random)) (recordSbox s (now rec)) ⌝ }
+    requires { ⌜ Ready (sboxProducts 4) (sboxDraws 4 s) (sboxSteps 4 s) n (elements 4 (now random)) (now watch) (now values) ⌝ }
+    ensures { λ r. ⌜ Went (sboxProducts 4) (sboxDraws 4 s) (sboxSteps 4 s) (elements 4 (now (random .entry))) (now (watch .entry))
+        (maskedNibble (recordSbox s (now (rec .entry))) k (sharing w s (now (l .entry))))
+        n (now (values .entry)) (sharing w s (now (l .exit))) r (now (values .exit)) ⌝ }
+{
+    let x = layers::column(w, s, k, l);
+    let y = sbox::run(4, s, rec, &x, random, watch, values, n);
+    let v = y.shares;
+    layers::replace_column(w, s, k, &v, l);
+    y.counts
+}
+
+// The S-box on nibbles 0 to 15 of a block.
+pub fn sbox_layer(
+    s: usize,
+    rec: &[u8],
+    random: &[u8],
+    watch: &[u32],
+    values: &mut [u8],
+    block: &mut [u8; 72],
+    n: Counts,
+) -> Counts
+    requires { ⌜ (s ≤ 9) × (33 ≤ length (now rec)) ⌝ }
+    requires { ⌜ Closed s (elements 4 (now random)) (recordSbox s (now rec)) ⌝ }
+    requires { ⌜ Ready (each (sboxProducts 4) 16 0) (each (sboxDraws 4 s) 16 0) (each (sboxSteps 4 s) 16 0) n (elements 4 (now random)) (now watch) (now values) ⌝ }
+    ensures { λ r. ⌜ Went (each (sboxProducts 4) 16 0) (each (sboxDraws 4 s) 16 0) (each (sboxSteps 4 s) 16 0) (elements 4 (now (random .entry))) (now (watch .entry))
+        (maskedSboxLayer (recordSbox s (now (rec .entry))) (sharing 8 s (now (block .entry))))
+        n (now (values .entry)) (sharing 8 s (now (block .exit))) r (now (values .exit)) ⌝ }
+{
+    let mut n = n;
+    let mut k = 0;
+    while k < 16 {
+        n = sbox_nibble(8, s, k, rec, random, watch, &mut *values, block, n);
+        k += 1;
+    }
+    n
+}

@@ -1,7 +1,14 @@
 // The figures of a masked block of s shares.
 ghost use mathlib.Core.Path.{_≡_};
 ghost use Prim.Native.Nat.{_<_, _≤_};
-ghost use Rattle.cipher.specs.Figures.{blockDraws, blockSteps};
+ghost use Rattle.cipher.specs.Figures.{blockProducts, blockDraws, blockSteps};
+
+// How many masked products there are.
+pub fn product_count() -> usize
+    ensures { λ r. ⌜ r ≡ blockProducts ⌝ }
+{
+    1054
+}
 
 // How many random elements the steps draw.
 pub fn draw_count(s: usize) -> usize

@@ -1,7 +1,7 @@
 // Masked PRESENT-80. The operations Block and Watch block are `enciphering::block` and `watching::watch_block`; both take their steps in `encrypt`, whose
 // parts are the modules `rounds`, `linear`, `substitution` and `recording`.
 mod checking;
-mod counting;
+pub mod counting;
 pub mod enciphering;
 pub mod encryption;
 mod linear;

@@ -666,18 +666,10 @@ int main(void)
     report("ll_check", test_check);
     report("ll_fit", test_fit);
     report("ll_house_fit", test_house_fit);
-#ifndef LACKS_ll_sbox // the script says what the archive lacks
     report("ll_sbox", test_sbox);
-#endif
-#ifndef LACKS_ll_sbox_watch
     report("ll_sbox_watch", test_sbox_watch);
-#endif
-#ifndef LACKS_ll_block
     report("ll_block", test_block);
-#endif
-#ifndef LACKS_ll_block_watch
     report("ll_block_watch", test_block_watch);
-#endif
     report("ll_split", test_split);
     report("ll_join", test_join);
     return failures == 0 ? 0 : 1;

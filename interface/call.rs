@@ -388,22 +388,10 @@ fn main() {
     failed += report("ll_check", check);
     failed += report("ll_fit", fit);
     failed += report("ll_house_fit", house_fit);
-    #[cfg(not(lacks_ll_sbox))] // the script says what the archive lacks
-    {
-        failed += report("ll_sbox", sbox);
-    }
-    #[cfg(not(lacks_ll_sbox_watch))]
-    {
-        failed += report("ll_sbox_watch", sbox_watch);
-    }
-    #[cfg(not(lacks_ll_block))]
-    {
-        failed += report("ll_block", block);
-    }
-    #[cfg(not(lacks_ll_block_watch))]
-    {
-        failed += report("ll_block_watch", block_watch);
-    }
+    failed += report("ll_sbox", sbox);
+    failed += report("ll_sbox_watch", sbox_watch);
+    failed += report("ll_block", block);
+    failed += report("ll_block_watch", block_watch);
     failed += report("ll_split", split);
     failed += report("ll_join", join);
     std::process::exit(if failed == 0 { 0 } else { 1 });

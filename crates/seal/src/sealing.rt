@@ -1,0 +1,94 @@
+// Part 3: the ciphertext in shares, and joined.
+use crate::example;
+use crate::refusing::refused;
+use crate::text;
+use cipher::enciphering::BlockAnswer;
+use cipher::enciphering::block;
+use steps::joining::JoinAnswer;
+use steps::joining::join;
+
+// Prints what the call took, which an auditor can hold to the figures in docs/FORMATS.md.
+fn show_counts(products: usize, random: usize, steps: u32) {
+    text::print_count(b"    masked products  ", products as u64);
+    text::print_count(b"    random bytes     ", random as u64);
+    text::print_count(b"    steps            ", steps as u64);
+}
+
+// Seals, and answers whether there is a ciphertext to show.
+fn sealed(record: &[u8], key: &[u8], shares: &[u8], random: &[u8], out: &mut [u8]) -> bool {
+    let answer = block(record, example::SHARES, key, shares, random, out);
+    match answer {
+        BlockAnswer::Done {
+            products,
+            random,
+            steps,
+        } => {
+            show_counts(products, random, steps);
+            true
+        }
+        BlockAnswer::Refused { number, place } => {
+            refused(b"Block", number, place);
+            false
+        }
+    }
+}
+
+// Joins shares, and answers whether there is a value to show.
+fn joined(shares: &[u8], out: &mut [u8]) -> bool {
+    let answer = join(shares, example::SHARES, out);
+    match answer {
+        JoinAnswer::Done => true,
+        JoinAnswer::Refused { number, place } => {
+            refused(b"Join", number, place);
+            false
+        }
+    }
+}
+
+// Says whether two ciphertexts are the same, so that the reader need not compare digits.
+fn compare(found: &[u8], published: &[u8]) {
+    text::print_row(b"    joined    ", found);
+    text::print_row(b"    published ", published);
+    if check::same(found, published) {
+        text::print(b"\nThey are the same.\n");
+    } else {
+        text::print(b"\nThey differ.\n");
+    }
+}
+
+// Joins the ciphertext and prints it beside the published one.
+fn show_joined(shares: &[u8], out: &mut [u8], published: &[u8]) {
+    text::print(b"\nJoin adds these shares up. Below stands the published ciphertext.\n\n");
+    if joined(shares, &mut *out) {
+        compare(out, published);
+    }
+}
+
+// Seals, and prints the shares of the ciphertext and their sum.
+fn show_sealed(
+    record: &[u8],
+    key: &[u8],
+    shares: &[u8],
+    random: &[u8],
+    out: &mut [u8],
+    sum: &mut [u8],
+    published: &[u8],
+) {
+    if sealed(record, key, shares, random, &mut *out) {
+        text::print(b"\n");
+        text::print_shares(8, &*out);
+        show_joined(out, sum, published);
+    }
+}
+
+// Shows the sealing itself: shares in, shares out.
+pub fn part(record: &[u8; 33], key: &[u8], shares: &[u8], random: &[u8]) {
+    let published = example::PUBLISHED;
+    let mut out = [0u8; 24];
+    let mut sum = [0u8; 8];
+    text::print(b"\n3. The ciphertext in three shares\n\n");
+    text::print(b"Block takes the record, the shares and 3162 random elements. It never adds\n");
+    text::print(b"the shares of a secret up, and hands back shares of the ciphertext and what\n");
+    text::print(b"it took. Random element i is here 7 i + 3 modulo 16: a fixed example value.\n\n");
+    show_sealed(record, key, shares, random, &mut out, &mut sum, &published);
+}

@@ -91,8 +91,10 @@ pub fn rounds(
 ) -> RoundState
     requires { ⌜ (0 < s) × (s ≤ 9) × (33 ≤ length (now rec)) ⌝ }
     requires { ⌜ Closed s (elements 4 (now random)) (recordSbox s (now rec)) ⌝ }
-    requires { ⌜ Ready (each roundProducts 32 1) (each (roundDraws s) 32 1) (each (roundSteps s) 32 1) (t .counts) (elements 4 (now random)) (now watch) (now values) ⌝ }
-    ensures { λ w. ⌜ Went (each roundProducts 32 1) (each (roundDraws s) 32 1) (each (roundSteps s) 32 1) (elements 4 (now (random .entry))) (now (watch .entry))
+    requires { ⌜ Ready (each roundProducts 32 1) (each (roundDraws s) 32 1) (each (roundSteps s) 32 1)
+        (t .counts) (elements 4 (now random)) (now watch) (now values) ⌝ }
+    ensures { λ w. ⌜ Went (each roundProducts 32 1) (each (roundDraws s) 32 1) (each (roundSteps s) 32 1)
+        (elements 4 (now (random .entry))) (now (watch .entry))
         (for 1 32 (maskedRound (recordSbox s (now (rec .entry))) size80 s) (sharings s t))
         (t .counts) (now (values .entry)) (sharings s w) (w .counts) (now (values .exit)) ⌝ }
 {

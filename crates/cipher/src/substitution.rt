@@ -48,8 +48,10 @@ pub fn sbox_layer(
 ) -> Counts
     requires { ⌜ (s ≤ 9) × (33 ≤ length (now rec)) ⌝ }
     requires { ⌜ Closed s (elements 4 (now random)) (recordSbox s (now rec)) ⌝ }
-    requires { ⌜ Ready (each (sboxProducts 4) 16 0) (each (sboxDraws 4 s) 16 0) (each (sboxSteps 4 s) 16 0) n (elements 4 (now random)) (now watch) (now values) ⌝ }
-    ensures { λ r. ⌜ Went (each (sboxProducts 4) 16 0) (each (sboxDraws 4 s) 16 0) (each (sboxSteps 4 s) 16 0) (elements 4 (now (random .entry))) (now (watch .entry))
+    requires { ⌜ Ready (each (sboxProducts 4) 16 0) (each (sboxDraws 4 s) 16 0) (each (sboxSteps 4 s) 16 0)
+        n (elements 4 (now random)) (now watch) (now values) ⌝ }
+    ensures { λ r. ⌜ Went (each (sboxProducts 4) 16 0) (each (sboxDraws 4 s) 16 0) (each (sboxSteps 4 s) 16 0)
+        (elements 4 (now (random .entry))) (now (watch .entry))
         (maskedSboxLayer (recordSbox s (now (rec .entry))) (sharing 8 s (now (block .entry))))
         n (now (values .entry)) (sharing 8 s (now (block .exit))) r (now (values .exit)) ⌝ }
 {

@@ -27,7 +27,8 @@ pub enum WatchAnswer {
 }
 
 // The masked block under a watch: value k is what the step whose number stands at place k of the list records.
-// Refused: as Block; 2 also for lengths of list and values that differ, or over 64 numbers; last 8, a number that is not a step's. Then `values` is unchanged.
+// Refused: as Block; 2 also for lengths of list and values that differ, or over 64 numbers; last 8, a number that is not a step's.
+// Then `values` is unchanged.
 pub fn watch_block(
     rec: &[u8],
     s: u32,

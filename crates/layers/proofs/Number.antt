@@ -96,7 +96,9 @@ number-set at l h v j c hc k =
     number-same (at + suc v) j l m (λ t g. getD-set-other l (at + v) (at + suc v + t) c 0 (λ e. omega arith)) in
     let there : getD m (at + v) 0 ≡ c = getD-set-same l (at + v) c 0 k in
     let byte : (a * 256 + b) ⊕ (b ⊕ c) ≡ a * 256 + c =
-    ap (λ (x : ℕ). (a * 256 + b) ⊕ x) (sym (zero-add (b ⊕ c))) ∙ ⊕-block 8 a 0 b (b ⊕ c) (h (at + v)) (⊕-lt 8 (h (at + v)) hc) ∙ ap₂ (λ (x y : ℕ). x * 256 + y) (⊕-zero a) (⊕-cancel b c) in
+    ap (λ (x : ℕ). (a * 256 + b) ⊕ x) (sym (zero-add (b ⊕ c)))
+    ∙ ⊕-block 8 a 0 b (b ⊕ c) (h (at + v)) (⊕-lt 8 (h (at + v)) hc)
+    ∙ ap₂ (λ (x y : ℕ). x * 256 + y) (⊕-zero a) (⊕-cancel b c) in
     number-around at m v j
     ∙ ap₂ (λ (x y : ℕ). x * 2 ^ (8 * j) + y) (ap₂ (λ (x y : ℕ). x * 256 + y) (ap fromBytes before) there) (ap fromBytes after)
     ∙ ap₂ (λ (x y : ℕ). x * 2 ^ (8 * j) + y) (sym byte) (sym (⊕-zero r))

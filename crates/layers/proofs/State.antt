@@ -97,7 +97,8 @@ changed-nibble w i k v l h g r hv =
     let moved : (b ⊕ c) * 2 ^ (8 * (w - 1 - p)) ≡ (nibble k x ⊕ v) * 2 ^ (4 * k) =
     ap₂ (λ (a n : ℕ). a * 2 ^ (8 * n)) (⊕-cancel b (d * 2 ^ shift % 256) ∙ whole) back
     ∙ mul-assoc d (2 ^ shift) (2 ^ (8 * (k / 2)))
-    ∙ ap₂ (λ (a n : ℕ). a * n) (ap (λ (a : ℕ). a ⊕ v) (sym (nibble-byte w l h i k g))) (sym (pow-add 2 shift (8 * (k / 2))) ∙ ap (λ (n : ℕ). 2 ^ n) place) in
+    ∙ ap₂ (λ (a n : ℕ). a * n) (ap (λ (a : ℕ). a ⊕ v) (sym (nibble-byte w l h i k g)))
+    (sym (pow-add 2 shift (8 * (k / 2))) ∙ ap (λ (n : ℕ). 2 ^ n) place) in
     let t = changed-set w i p l h (omega arith) (omega arith) c (⊕-lt 8 (h (w * i + p)) (omega arith)) in
     record { here = t .here ∙ ap (λ (a : ℕ). x ⊕ a) moved ∙ sym (replace-is k x v hv); others = t .others }
 

@@ -64,14 +64,16 @@ returns-4 c =
 
 -- so have the random elements
 lengths : (c : tie.Else4) → let a = c .before .before .before .before .before .before .before .before .before .before .args in
-    argumentTests (a .s) (a .key .now) (a .block .now) (a .random .now) (a .fits) ≡ test (a .fits) 2 0 (testBelow 16 0 (elements 4 (a .random .now)) (done []))
+    argumentTests (a .s) (a .key .now) (a .block .now) (a .random .now) (a .fits)
+    ≡ test (a .fits) 2 0 (testBelow 16 0 (elements 4 (a .random .now)) (done []))
 lengths c =
     let e = c .if4 .left ∙ c .before .bytes-for .ensures ∙ ap (bytesFor 4) (c .before .before .draw-count .ensures) in
     shares (c .before .before .before) ∙ rw (eq-eqb _ _ e)
 
 returns-5 : tie.Need-returns-5
 returns-5 c =
-    let f : c .before .before .before .before .before .before .before .before .before .before .before .args .fits ≡ false = not-true _ (c .if5 .taken) in
+    let start = c .before .before .before .before .before .before .before .before .before .before .before in
+    let f : start .args .fits ≡ false = not-true _ (c .if5 .taken) in
     sym (lengths (c .before) ∙ rw f)
 
 element-tests-requires : tie.Need-element-tests-requires
@@ -79,7 +81,8 @@ element-tests-requires c κs = search needs
 
 returns-6 : tie.Need-returns-6
 returns-6 c =
-    let f : c .before .before .before .before .before .before .before .before .before .before .before .before .args .fits ≡ true = not-false _ (c .before .if5 .left) in
+    let start = c .before .before .before .before .before .before .before .before .before .before .before .before in
+    let f : start .args .fits ≡ true = not-false _ (c .before .if5 .left) in
     c .element-tests .ensures ∙ sym (lengths (c .before .before) ∙ rw f)
 
 pub argument-tests-spec : {M : Type 1} → statement M

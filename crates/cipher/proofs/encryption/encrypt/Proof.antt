@@ -6,6 +6,7 @@ use Rattle.layers.specs.State.{sharing}
 use Rattle.cipher.specs.Figures.{roundProducts, roundDraws, roundSteps}
 use Rattle.cipher.proofs.Parts.{ready-counts, went-counts, ready-first, ready-next, went-then}
 use Rattle.cipher.proofs.Figures.{block-products, block-draws, block-steps}
+use native.Mathlib.Omega.{arith}
 use borrow.Author.Needs.{needs}
 use Rattle.cipher.proofs.encryption.encrypt.Statement.{statement}
 use Rattle.cipher.proofs.encryption.encrypt.Tie as tie
@@ -28,11 +29,14 @@ rounds-requires c κs =
 
 add-round-key-requires : tie.Need-add-round-key-requires
 add-round-key-requires c κs =
-    let s = c .before .before .before .before .before .before .before .before .before .before .before .before .before .before .before .before .args .s in
-    let h = c .before .before .before .before .before .before .before .before .before .before .before .before .before .before .before .before .pre in
-    let y = ready-counts (h .1 .1) block-products (block-draws s) (block-steps s) in
-    let w = rw (c .before .before .before .before .before .before .before .before .before .load .ensures .nothing-taken) at (c .before .before .before .before .before .before .before .rounds .ensures) in
-    (h .0 .1, ready-next 0 0 (each 16 s 0) y w (search needs))
+    let round = c .before .before .before .before .before .before .before in
+    let loaded = round .before .before in
+    let start = loaded .before .before .before .before .before .before .before in
+    let s = start .args .s in
+    let h = start .pre in
+    let ready = ready-counts (h .1 .1) block-products (block-draws s) (block-steps s) in
+    let w = rw (loaded .load .ensures .nothing-taken) at (round .rounds .ensures) in
+    (h .0 .1, ready-next 0 0 (each 16 s 0) ready w (omega (arith, round .rounds .kept)))
 
 same-length : tie.Need-same-length
 same-length c = search needs
@@ -40,9 +44,11 @@ same-length c = search needs
 returns : tie.Need-returns
 unfolding maskedEncrypt sharing
 returns c =
-    let s = c .before .before .before .before .before .before .before .before .before .before .before .before .before .before .before .before .before .before .before .args .s in
-    let l = c .before .before .before .before .before .before .before .before .before .before .before .before .load .ensures in
-    let w = rw (l .nothing-taken, l .key-loaded s, l .block-loaded s) at (c .before .before .before .before .before .before .before .before .before .before .rounds .ensures) in
+    let round = c .before .before .before .before .before .before .before .before .before .before in
+    let loaded = round .before .before in
+    let s = loaded .before .before .before .before .before .before .before .args .s in
+    let l = loaded .load .ensures in
+    let w = rw (l .nothing-taken, l .key-loaded s, l .block-loaded s) at (round .rounds .ensures) in
     went-counts (went-then _ w (c .before .before .add-round-key .ensures)) (sym block-products) (sym (block-draws s)) (sym (block-steps s))
 
 pub encrypt-spec : {M : Type 1} → statement M

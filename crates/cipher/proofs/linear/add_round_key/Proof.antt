@@ -16,7 +16,9 @@ same-length c = search needs
 
 returns : tie.Need-returns
 unfolding maskedAddRoundKey
-returns c = recorded-went 16 _ _ _ (c .before .before .record-shares .ensures) (c .before .before .before .before .before .before .add-round-keys .ensures)
+returns c =
+    let recorded = c .before .before in
+    recorded-went 16 _ _ _ (recorded .record-shares .ensures) (recorded .before .before .before .before .add-round-keys .ensures)
 
 pub add-round-key-spec : {M : Type 1} → statement M
 add-round-key-spec =

@@ -16,7 +16,9 @@ same-length c = search needs
 
 returns : tie.Need-returns
 unfolding maskedPermute
-returns c = recorded-went 16 _ _ _ (c .before .before .record-shares .ensures) (c .before .before .before .before .before .before .permute-shares .ensures)
+returns c =
+    let recorded = c .before .before in
+    recorded-went 16 _ _ _ (recorded .record-shares .ensures) (recorded .before .before .before .before .permute-shares .ensures)
 
 pub permutation-spec : {M : Type 1} → statement M
 permutation-spec =

@@ -16,7 +16,9 @@ same-length c = search needs
 
 returns : tie.Need-returns
 unfolding maskedRotate
-returns c = recorded-went 20 _ _ _ (c .before .before .record-shares .ensures) (c .before .before .before .before .before .before .rotate-keys .ensures)
+returns c =
+    let recorded = c .before .before in
+    recorded-went 20 _ _ _ (recorded .record-shares .ensures) (recorded .before .before .before .before .rotate-keys .ensures)
 
 pub rotation-spec : {M : Type 1} → statement M
 rotation-spec =

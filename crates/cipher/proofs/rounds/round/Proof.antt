@@ -6,54 +6,72 @@ use Rattle.sbox.specs.Figures.{sboxProducts, sboxDraws, sboxSteps}
 use Rattle.present.specs.Masked.{maskedRound}
 use Rattle.cipher.proofs.Parts.{ready-counts, went-counts, ready-first, ready-next, went-then, went-map}
 use Rattle.cipher.proofs.Figures.{round-products, round-draws, round-steps}
+use native.Mathlib.Omega.{arith}
 use borrow.Author.Needs.{needs}
 use Rattle.cipher.proofs.rounds.round.Statement.{statement}
 use Rattle.cipher.proofs.rounds.round.Tie as tie
 
 add-round-key-requires : tie.Need-add-round-key-requires
 add-round-key-requires c κs =
-    let s = c .before .before .before .before .before .before .before .before .before .args .s in
+    let start = c .before .before .before .before .before .before .before .before .before in
+    let s = start .args .s in
     let p = sboxProducts 4 in
     let q = sboxDraws 4 s in
     let r = sboxSteps 4 s in
-    let y = ready-counts (c .before .before .before .before .before .before .before .before .before .pre .1 .1) round-products (round-draws s) (round-steps s) in
-    (c .before .before .before .before .before .before .before .before .before .pre .0 .1, ready-first 0 (each p 16 0 + (0 + p)) 0 (each q 16 0 + (0 + q)) (each 16 s 0) (each r 16 0 + (each 16 s 0 + (20 * s + r + 2))) y)
+    let ready = ready-counts (start .pre .1 .1) round-products (round-draws s) (round-steps s) in (
+      start .pre .0 .1,
+      ready-first 0 (each p 16 0 + (0 + p)) 0 (each q 16 0 + (0 + q)) (each 16 s 0) (each r 16 0 + (each 16 s 0 + (20 * s + r + 2))) ready,
+    )
 
 sbox-layer-requires : tie.Need-sbox-layer-requires
 sbox-layer-requires c κs =
-    let s = c .before .before .before .before .before .before .before .before .before .before .before .before .before .before .args .s in
+    let added = c .before .before .before .before in
+    let start = added .before .before .before .before .before .before .before .before .before .before in
+    let s = start .args .s in
     let p = sboxProducts 4 in
     let q = sboxDraws 4 s in
     let r = sboxSteps 4 s in
-    let y = ready-counts (c .before .before .before .before .before .before .before .before .before .before .before .before .before .before .pre .1 .1) round-products (round-draws s) (round-steps s) in
-    let y₁ = ready-next (each p 16 0 + (0 + p)) (each q 16 0 + (0 + q)) (each r 16 0 + (each 16 s 0 + (20 * s + r + 2))) y
-    (c .before .before .before .before .add-round-key .ensures) (search needs) in
-    let h = c .before .before .before .before .before .before .before .before .before .before .before .before .before .before .pre .0 in
-    ((h .1, h .3), (c .before .before .before .before .before .before .before .before .before .before .before .before .before .before .pre .1 .0, ready-first (each p 16 0) (0 + p) (each q 16 0) (0 + q) (each r 16 0) (each 16 s 0 + (20 * s + r + 2)) y₁))
+    let ready = ready-counts (start .pre .1 .1) round-products (round-draws s) (round-steps s) in
+    let ready₁ = ready-next (each p 16 0 + (0 + p)) (each q 16 0 + (0 + q)) (each r 16 0 + (each 16 s 0 + (20 * s + r + 2))) ready
+    (added .add-round-key .ensures) (omega (arith, added .add-round-key .kept)) in
+    let h = start .pre .0 in (
+      (h .1, h .3),
+      (start .pre .1 .0, ready-first (each p 16 0) (0 + p) (each q 16 0) (0 + q) (each r 16 0) (each 16 s 0 + (20 * s + r + 2)) ready₁),
+    )
 
 permutation-requires : tie.Need-permutation-requires
 permutation-requires c κs =
-    let s = c .before .before .before .before .before .before .before .before .before .before .before .before .before .before .before .before .before .before .before .args .s in
+    let boxed = c .before .before .before .before in
+    let added = boxed .before .before .before .before .before in
+    let start = added .before .before .before .before .before .before .before .before .before .before in
+    let s = start .args .s in
     let p = sboxProducts 4 in
     let q = sboxDraws 4 s in
     let r = sboxSteps 4 s in
-    let y = ready-counts (c .before .before .before .before .before .before .before .before .before .before .before .before .before .before .before .before .before .before .before .pre .1 .1) round-products (round-draws s) (round-steps s) in
-    let y₁ = ready-next (each p 16 0 + (0 + p)) (each q 16 0 + (0 + q)) (each r 16 0 + (each 16 s 0 + (20 * s + r + 2))) y
-    (c .before .before .before .before .before .before .before .before .before .add-round-key .ensures) (search needs) in
-    let y₂ = ready-next (0 + p) (0 + q) (each 16 s 0 + (20 * s + r + 2)) y₁ (c .before .before .before .before .sbox-layer .ensures) (search needs) in
-    (c .before .before .before .before .before .before .before .before .before .before .before .before .before .before .before .before .before .before .before .pre .0 .1, ready-first 0 p 0 q (each 16 s 0) (20 * s + r + 2) y₂)
+    let ready = ready-counts (start .pre .1 .1) round-products (round-draws s) (round-steps s) in
+    let ready₁ = ready-next (each p 16 0 + (0 + p)) (each q 16 0 + (0 + q)) (each r 16 0 + (each 16 s 0 + (20 * s + r + 2))) ready
+    (added .add-round-key .ensures) (omega (arith, added .add-round-key .kept)) in
+    let ready₂ = ready-next (0 + p) (0 + q) (each 16 s 0 + (20 * s + r + 2)) ready₁
+    (boxed .sbox-layer .ensures) (omega (arith, boxed .sbox-layer .kept)) in
+    (start .pre .0 .1, ready-first 0 p 0 q (each 16 s 0) (20 * s + r + 2) ready₂)
 
 update-key-requires : tie.Need-update-key-requires
 update-key-requires c κs =
-    let s = c .before .before .before .before .before .before .before .before .before .before .before .before .before .before .before .before .before .before .before .before .before .before .before .before .args .s in
+    let permuted = c .before .before .before .before in
+    let boxed = permuted .before .before .before .before .before in
+    let added = boxed .before .before .before .before .before in
+    let start = added .before .before .before .before .before .before .before .before .before .before in
+    let s = start .args .s in
     let p = sboxProducts 4 in
     let q = sboxDraws 4 s in
     let r = sboxSteps 4 s in
-    let y = ready-counts (c .before .before .before .before .before .before .before .before .before .before .before .before .before .before .before .before .before .before .before .before .before .before .before .before .pre .1 .1) round-products (round-draws s) (round-steps s) in
-    let y₁ = ready-next (each p 16 0 + (0 + p)) (each q 16 0 + (0 + q)) (each r 16 0 + (each 16 s 0 + (20 * s + r + 2))) y
-    (c .before .before .before .before .before .before .before .before .before .before .before .before .before .before .add-round-key .ensures) (search needs) in
-    let y₂ = ready-next (0 + p) (0 + q) (each 16 s 0 + (20 * s + r + 2)) y₁ (c .before .before .before .before .before .before .before .before .before .sbox-layer .ensures) (search needs) in
-    (c .before .before .before .before .before .before .before .before .before .before .before .before .before .before .before .before .before .before .before .before .before .before .before .before .pre .0, (c .before .before .before .before .before .before .before .before .before .before .before .before .before .before .before .before .before .before .before .before .before .before .before .before .pre .1 .0, ready-next p q (20 * s + r + 2) y₂ (c .before .before .before .before .permutation .ensures) (search needs)))
+    let ready = ready-counts (start .pre .1 .1) round-products (round-draws s) (round-steps s) in
+    let ready₁ = ready-next (each p 16 0 + (0 + p)) (each q 16 0 + (0 + q)) (each r 16 0 + (each 16 s 0 + (20 * s + r + 2))) ready
+    (added .add-round-key .ensures) (omega (arith, added .add-round-key .kept)) in
+    let ready₂ = ready-next (0 + p) (0 + q) (each 16 s 0 + (20 * s + r + 2)) ready₁
+    (boxed .sbox-layer .ensures) (omega (arith, boxed .sbox-layer .kept)) in
+    let ready₃ = ready-next p q (20 * s + r + 2) ready₂ (permuted .permutation .ensures) (omega (arith, permuted .permutation .kept)) in
+    (start .pre .0, (start .pre .1 .0, ready₃))
 
 same-length : tie.Need-same-length
 same-length c = search needs
@@ -61,10 +79,14 @@ same-length c = search needs
 returns : tie.Need-returns
 unfolding maskedRound
 returns c =
-    let s = c .before .before .before .before .before .before .before .before .before .before .before .before .before .before .before .before .before .before .before .before .before .before .before .before .before .before .before .args .s in
+    let updated = c .before .before in
+    let permuted = updated .before .before .before .before .before in
+    let boxed = permuted .before .before .before .before .before in
+    let added = boxed .before .before .before .before .before in
+    let s = added .before .before .before .before .before .before .before .before .before .before .args .s in
     went-counts
-    (went-then _ (c .before .before .before .before .before .before .before .before .before .before .before .before .before .before .before .before .before .add-round-key .ensures)
-    (went-then _ (c .before .before .before .before .before .before .before .before .before .before .before .before .sbox-layer .ensures) (went-then _ (c .before .before .before .before .before .before .before .permutation .ensures) (went-map _ (c .before .before .update-key .ensures)))))
+    (went-then _ (added .add-round-key .ensures)
+    (went-then _ (boxed .sbox-layer .ensures) (went-then _ (permuted .permutation .ensures) (went-map _ (updated .update-key .ensures)))))
     (sym round-products) (sym (round-draws s)) (sym (round-steps s))
 
 pub round-spec : {M : Type 1} → statement M

@@ -14,8 +14,8 @@ use Rattle.cipher.proofs.rounds.rounds.Tie as tie
 
 abbrev Inv-loop : tie.InvT-loop
 Inv-loop s rec random watch values₀ t₀ r₀ values t r =
-    Going (each roundProducts 32) (each (roundDraws s) 32) (each (roundSteps s) 32) (elements 4 random) watch (maskedRound (recordSbox s rec) size80 s) 1 32
-    (sharings s t₀) (t₀ .counts) values₀ r (sharings s t) (t .counts) values
+    Going (each roundProducts 32) (each (roundDraws s) 32) (each (roundSteps s) 32) (elements 4 random) watch
+    (maskedRound (recordSbox s rec) size80 s) 1 32 (sharings s t₀) (t₀ .counts) values₀ r (sharings s t) (t .counts) values
 
 abbrev μ-loop : tie.MeasureT-loop
 μ-loop s rec random watch values₀ t₀ r₀ values t r = 32 - r

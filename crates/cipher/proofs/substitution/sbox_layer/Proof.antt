@@ -13,8 +13,8 @@ use Rattle.cipher.proofs.substitution.sbox_layer.Tie as tie
 
 abbrev Inv-loop : tie.InvT-loop
 Inv-loop s rec random watch values₀ block₀ n₀ k₀ values block n k =
-    Going (each (sboxProducts 4) 16) (each (sboxDraws 4 s) 16) (each (sboxSteps 4 s) 16) (elements 4 random) watch (maskedNibble (recordSbox s rec)) 0 16
-    (sharing 8 s block₀) n₀ values₀ k (sharing 8 s block) n values
+    Going (each (sboxProducts 4) 16) (each (sboxDraws 4 s) 16) (each (sboxSteps 4 s) 16) (elements 4 random) watch
+    (maskedNibble (recordSbox s rec)) 0 16 (sharing 8 s block₀) n₀ values₀ k (sharing 8 s block) n values
 
 abbrev μ-loop : tie.MeasureT-loop
 μ-loop s rec random watch values₀ block₀ n₀ k₀ values block n k = 16 - k
@@ -29,7 +29,8 @@ sbox-nibble-requires c κs =
       search needs,
       (
         c .before .before .before .before .before .before .before .before .pre .1 .0,
-        going-ready (c .before .before .before .loop .inv) (search needs) (each-turn (sboxProducts 4) h) (each-turn (sboxDraws 4 (a .s)) h) (each-turn (sboxSteps 4 (a .s)) h),
+        going-ready (c .before .before .before .loop .inv) (search needs)
+            (each-turn (sboxProducts 4) h) (each-turn (sboxDraws 4 (a .s)) h) (each-turn (sboxSteps 4 (a .s)) h),
       ),
     )
 

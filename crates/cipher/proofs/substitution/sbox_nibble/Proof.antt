@@ -16,10 +16,13 @@ run-requires c κs = (inl refl, ((search needs, record-bytes (search needs)), se
 
 replace-column-requires : tie.Need-replace-column-requires
 replace-column-requires c κs =
-    let a = c .before .before .before .before .before .before .before .before .before .before .before .before .before .before .before .args in (
+    let boxed = c .before .before .before .before .before in
+    let taken = boxed .before .before .before in
+    let start = taken .before .before .before .before .before .before .before in
+    let a = start .args in (
       search needs,
-      closed-result (recordSbox (a .s) (a .rec .now)) (a .k) (a .w) (a .s) (a .l .now) (c .before .before .before .before .before .before .before .before .before .before .before .before .before .before .before .pre .1 .0) (search needs)
-          (c .before .before .before .before .before .before .before .before .column .ensures) (c .before .before .before .before .before .run .ensures),
+      closed-result (recordSbox (a .s) (a .rec .now)) (a .k) (a .w) (a .s) (a .l .now) (start .pre .1 .0) (search needs)
+          (taken .column .ensures) (boxed .run .ensures),
     )
 
 same-length : tie.Need-same-length
@@ -30,9 +33,11 @@ same-length-2 c = search needs
 
 returns : tie.Need-returns
 returns c =
-    let a = c .before .before .before .before .before .before .before .before .before .before .before .before .before .before .before .before .before .before .before .args in
+    let boxed = c .before .before .before .before .before .before .before .before .before in
+    let taken = boxed .before .before .before in
+    let a = taken .before .before .before .before .before .before .before .args in
     nibble-substituted (recordSbox (a .s) (a .rec .now)) (a .k) (sharing (a .w) (a .s) (a .l .now)) _ _ _
-    (c .before .before .before .before .before .before .before .before .before .before .before .before .column .ensures) (c .before .before .before .before .before .before .before .before .before .run .ensures) (c .before .before .before .replace-column .ensures)
+    (taken .column .ensures) (boxed .run .ensures) (c .before .before .before .replace-column .ensures)
 
 pub sbox-nibble-spec : {M : Type 1} → statement M
 sbox-nibble-spec =

@@ -45,9 +45,11 @@ unfolding callProgram
 returns-2 c =
     let a = c .before .before .before .before .before .before .before .before .before .before .before .before .before .before .before .args in
     let p = c .before .before .before .before .before .before .before .before .before .before .before .before .before .before .before .pre in
-    let past = c .before .before .before .before .before .before .before .first-past in
-    let e : firstLarge (blockSteps (a .s)) (a .list .now) ≡ past .result = rw (← (c .before .before .before .before .before .before .before .before .step-count .ensures)) (sym (past .ensures)) in
-    let h : length (a .list .now) ≤ firstLarge (blockSteps (a .s)) (a .list .now) = omega (arith, e, c .before .before .before .before .before .before .if1 .left) in
+    let tested = c .before .before .before .before .before .before in
+    let past = tested .before .first-past in
+    let e : firstLarge (blockSteps (a .s)) (a .list .now) ≡ past .result =
+    rw (← (tested .before .before .step-count .ensures)) (sym (past .ensures)) in
+    let h : length (a .list .now) ≤ firstLarge (blockSteps (a .s)) (a .list .now) = omega (arith, e, tested .if1 .left) in
     let w = c .before .before .before .before .encrypt .ensures in
     succeeds (rw (le-leb _ _ h, call-counts (p .0) (went-whole w), ← (c .bytes-for .ensures))) (call-watched (p .0) (p .1) h w)
 

@@ -1,18 +1,14 @@
 -- `bytes::number` meets its contract. The invariant: x is the number that the first j bytes are.
-use mathlib.Core.Path.{_≡_, sym, ap, ap₂, _∙_}
+use mathlib.Core.Path.{_≡_, sym, ap₂, _∙_}
 use Prim.Native.Nat.{ℕ, _+_, _-_, _*_, _^_, _≤_, _<_}
 use native.Mathlib.Numerals.{add-one}
 use native.Mathlib.Omega.{arith}
 use borrow.Author.Needs.{needs}
-use lib.ListN.{length, getD}
 use Rattle.present.specs.Bytes.{fromBytes}
 use Rattle.layers.specs.State.{bytesAt}
 use Rattle.layers.proofs.Number.{number-none, number-more, byte-more-lt, bytes-fit}
 use Rattle.layers.proofs.bytes.number.Statement.{statement}
 use Rattle.layers.proofs.bytes.number.Tie as tie
-use Rattle.layers.proofs.bytes.number.Reads as reads
-use Rattle.layers.proofs.bytes.number.Lts as lts
-use Rattle.layers.proofs.bytes.wide.Reads as wide-reads
 
 abbrev Inv-loop : tie.InvT-loop
 Inv-loop l at w x₀ j₀ x j = (j ≤ w) × (x ≡ fromBytes (bytesAt at j l)) × (x < 2 ^ (8 * j))

@@ -1,18 +1,16 @@
 -- `bytes::put_number` meets its contract. The invariant: the first j bytes are written.
-use mathlib.Core.Path.{_≡_, refl, sym, ap, _∙_}
-use Prim.Native.Nat.{_+_, _-_, _*_, _≤_, _<_}
+use mathlib.Core.Path.{_≡_, refl}
+use Prim.Native.Nat.{_-_, _≤_, _<_}
 use native.Mathlib.Numerals.{add-one}
 use native.Mathlib.Omega.{arith}
 use borrow.Author.Needs.{needs}
-use lib.ListN.{length, getD, length-set}
+use lib.ListN.{length, length-set}
 use lib.Seq.{paste, paste-zero, paste-suc}
 use Rattle.present.specs.Bytes.{toBytes}
 use Rattle.present.proofs.Bytes.{length-to-bytes}
 use Rattle.layers.proofs.Number.{getD-to-bytes}
 use Rattle.layers.proofs.bytes.put_number.Statement.{statement}
 use Rattle.layers.proofs.bytes.put_number.Tie as tie
-use Rattle.layers.proofs.bytes.put_number.Reads as reads
-use Rattle.layers.proofs.bytes.put_number.Lts as lts
 
 abbrev Inv-loop : tie.InvT-loop
 Inv-loop l₀ at w x j₀ l j = (j ≤ w) × (length l ≡ length l₀) × (l ≡ paste l₀ at (toBytes w x) j)

@@ -1,12 +1,8 @@
 -- `permutation::permute` meets its contract: its exchanges are the permutation.
-use mathlib.Core.Path.{sym, _∙_}
 use borrow.Author.Needs.{needs}
 use Rattle.layers.proofs.Exchanges.{exchanges-permute}
 use Rattle.layers.proofs.permutation.permute.Statement.{statement}
 use Rattle.layers.proofs.permutation.permute.Tie as tie
-use Rattle.layers.proofs.permutation.permute.Reads as reads
-use Rattle.layers.proofs.permutation.permute.Lts as lts
-use Rattle.layers.proofs.permutation.exchange.Reads as exchange-reads
 
 exchange-requires : tie.Need-exchange-requires
 exchange-requires c κs = search needs

@@ -6,8 +6,6 @@ use Rattle.layers.proofs.State.{changed-number}
 use borrow.Author.Needs.{needs}
 use Rattle.layers.proofs.share.add_number.Statement.{statement}
 use Rattle.layers.proofs.share.add_number.Tie as tie
-use Rattle.layers.proofs.share.add_number.Reads as reads
-use Rattle.layers.proofs.share.add_number.Lts as lts
 
 slice-read-low : tie.Need-slice-read-low
 slice-read-low c = search needs

@@ -2,6 +2,7 @@
 use mathlib.Core.Path.{_≡_, sym, ap₂, _∙_}
 use native.Mathlib.Omega.{arith}
 use Rattle.xor.specs.Xor.{_⊕_}
+use Rattle.xor.specs.Sum.{Small}
 use Rattle.xor.proofs.Xor.{⊕-lt}
 use Rattle.present.specs.Present as present
 use Rattle.layers.specs.State.{shareAt}
@@ -9,10 +10,6 @@ use Rattle.layers.proofs.State.{changed-put, round-key-first}
 use borrow.Author.Needs.{needs}
 use Rattle.layers.proofs.share.add_share.Statement.{statement}
 use Rattle.layers.proofs.share.add_share.Tie as tie
-use Rattle.layers.proofs.share.add_share.Reads as reads
-use Rattle.layers.proofs.share.add_share.Lts as lts
-use Rattle.layers.proofs.bytes.number.Reads as number-reads
-use Rattle.layers.proofs.bytes.put_number.Reads as put-number-reads
 
 mul-at : tie.Need-mul-at
 mul-at c = search needs
@@ -36,10 +33,11 @@ returns : tie.Need-returns
 unfolding shareAt _⊕_
 returns c =
     let a = c .before .before .before .before .before .before .before .before .before .args in
+    let small : Small 8 (a .key .now) = λ j. omega (arith, c .before .before .before .before .before .before .before .before .shared-slice-known .given j) in
     let k = c .before .before .before .before .before .before .number in
     let x = c .before .before .before .before .number2 in
     let e : k .result ⊕ x .result ≡ present.roundKey present.size80 (shareAt 10 (a .key .now) (a .i)) ⊕ shareAt 8 (a .block .now) (a .i) =
-    ap₂ _⊕_ (k .ensures .0 ∙ sym (round-key-first (a .i) (a .key .now) (λ j. omega (arith, c .before .before .before .before .before .before .before .before .shared-slice-known .given j)))) (x .ensures .0) in
+    ap₂ _⊕_ (k .ensures .0 ∙ sym (round-key-first (a .i) (a .key .now) small)) (x .ensures .0) in
     rw (c .before .before .put-number .ensures, ← e)
     (changed-put 8 (a .i) (k .result ⊕ x .result) (a .block .now) (search needs) (⊕-lt 64 (k .ensures .1) (x .ensures .1)))
 

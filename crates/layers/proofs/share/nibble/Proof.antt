@@ -5,8 +5,6 @@ use Rattle.layers.proofs.State.{nibble-byte}
 use borrow.Author.Needs.{needs}
 use Rattle.layers.proofs.share.nibble.Statement.{statement}
 use Rattle.layers.proofs.share.nibble.Tie as tie
-use Rattle.layers.proofs.share.nibble.Reads as reads
-use Rattle.layers.proofs.share.nibble.Lts as lts
 
 mul-b : tie.Need-mul-b
 mul-b c = search needs

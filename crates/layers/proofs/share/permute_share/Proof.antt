@@ -1,17 +1,11 @@
 -- `share::permute_share` meets its contract.
 use mathlib.Core.Path.{_≡_, ap, _∙_}
-use native.Mathlib.Omega.{arith}
 use Rattle.present.specs.Present as present
 use Rattle.layers.specs.State.{shareAt}
 use Rattle.layers.proofs.State.{changed-put}
 use borrow.Author.Needs.{needs}
 use Rattle.layers.proofs.share.permute_share.Statement.{statement}
 use Rattle.layers.proofs.share.permute_share.Tie as tie
-use Rattle.layers.proofs.share.permute_share.Reads as reads
-use Rattle.layers.proofs.share.permute_share.Lts as lts
-use Rattle.layers.proofs.bytes.number.Reads as number-reads
-use Rattle.layers.proofs.bytes.put_number.Reads as put-number-reads
-use Rattle.layers.proofs.permutation.permute.Reads as permute-reads
 
 mul-at : tie.Need-mul-at
 mul-at c = search needs
@@ -33,7 +27,8 @@ unfolding shareAt
 returns c =
     let a = c .before .before .before .before .before .before .before .before .args in
     let x = c .before .before .before .permute in
-    let e : x .result ≡ present.permute (shareAt 8 (a .block .now) (a .i)) = x .ensures ∙ ap present.permute (c .before .before .before .before .before .number .ensures .0) in
+    let e : x .result ≡ present.permute (shareAt 8 (a .block .now) (a .i)) =
+    x .ensures ∙ ap present.permute (c .before .before .before .before .before .number .ensures .0) in
     rw (c .before .before .put-number .ensures, ← e) (changed-put 8 (a .i) (x .result) (a .block .now) (search needs) (search needs))
 
 pub permute-share-spec : {M : Type 1} → statement M

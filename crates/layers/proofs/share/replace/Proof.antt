@@ -5,8 +5,6 @@ use Rattle.layers.proofs.State.{byteWith, changed-nibble}
 use borrow.Author.Needs.{needs}
 use Rattle.layers.proofs.share.replace.Statement.{statement}
 use Rattle.layers.proofs.share.replace.Tie as tie
-use Rattle.layers.proofs.share.replace.Reads as reads
-use Rattle.layers.proofs.share.replace.Lts as lts
 
 mul-at : tie.Need-mul-at
 mul-at c = search needs

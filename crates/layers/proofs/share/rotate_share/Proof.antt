@@ -1,17 +1,12 @@
 -- `share::rotate_share` meets its contract.
-use mathlib.Core.Path.{_≡_, sym, ap, ap₂, _∙_}
+use mathlib.Core.Path.{_≡_, sym, ap₂, _∙_}
 use Prim.Native.Nat.{ℕ, _+_, _*_, _/_, _%_, _^_}
 use native.Mathlib.Omega.{arith}
-use Rattle.present.specs.Present as present
 use Rattle.layers.specs.State.{shareAt}
 use Rattle.layers.proofs.State.{share-parts, changed-parts, rotated-parts, rotated-lt}
 use borrow.Author.Needs.{needs}
 use Rattle.layers.proofs.share.rotate_share.Statement.{statement}
 use Rattle.layers.proofs.share.rotate_share.Tie as tie
-use Rattle.layers.proofs.share.rotate_share.Reads as reads
-use Rattle.layers.proofs.share.rotate_share.Lts as lts
-use Rattle.layers.proofs.bytes.number.Reads as number-reads
-use Rattle.layers.proofs.bytes.put_number.Reads as put-number-reads
 
 mul-at : tie.Need-mul-at
 mul-at c = search needs
@@ -36,7 +31,9 @@ add-put-number c = search needs
 
 add-put-number-2 : tie.Need-add-put-number-2
 add-put-number-2 c =
-    record { fits = rotated-lt (c .before .before .before .number .result) (c .before .number2 .result) (c .before .before .before .number .ensures .1) (c .before .number2 .ensures .1) }
+    let t = c .before .before .before .number in
+    let u = c .before .number2 in
+    record { fits = rotated-lt (t .result) (u .result) (t .ensures .1) (u .ensures .1) }
 
 put-number-requires : tie.Need-put-number-requires
 put-number-requires c κs = search needs
@@ -57,7 +54,8 @@ returns c =
     let u = c .before .before .before .before .before .before .before .before .number2 in
     let e : shareAt 10 (a .key .now) (a .i) ≡ t .result * 2 ^ 16 + u .result =
     share-parts 8 2 (a .i) (a .key .now) ∙ ap₂ (λ (x y : ℕ). x * 2 ^ 16 + y) (sym (t .ensures .0)) (sym (u .ensures .0)) in
-    rw (c .before .before .put-number2 .ensures, c .before .before .before .before .before .before .put-number .ensures, e, rotated-parts (t .result) (u .result) (u .ensures .1))
+    let put = c .before .before in
+    rw (put .put-number2 .ensures, put .before .before .before .before .put-number .ensures, e, rotated-parts (t .result) (u .result) (u .ensures .1))
     (changed-parts 8 2 (a .i) (t .result % 8 * 2 ^ 61 + u .result * 2 ^ 45 + t .result / 2 ^ 19) (t .result / 8 % 2 ^ 16) (a .key .now)
     (omega arith) (rotated-lt (t .result) (u .result) (t .ensures .1) (u .ensures .1)) (omega arith))
 

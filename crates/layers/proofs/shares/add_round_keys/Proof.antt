@@ -1,5 +1,5 @@
 -- `shares::add_round_keys` meets its contract. The invariant: the round key is added to the shares before number i.
-use mathlib.Core.Path.{_≡_, sym, ap, ap₂, _∙_}
+use mathlib.Core.Path.{sym, ap, _∙_}
 use Prim.Native.Nat.{ℕ, _-_, _≤_}
 use native.Mathlib.Omega.{arith}
 use Rattle.xor.specs.Xor.{_⊕_}
@@ -11,9 +11,6 @@ use Rattle.layers.proofs.View.{map-given, wise-given, Turned, turned-no
 use borrow.Author.Needs.{needs}
 use Rattle.layers.proofs.shares.add_round_keys.Statement.{statement}
 use Rattle.layers.proofs.shares.add_round_keys.Tie as tie
-use Rattle.layers.proofs.shares.add_round_keys.Reads as reads
-use Rattle.layers.proofs.shares.add_round_keys.Lts as lts
-use Rattle.layers.proofs.share.add_share.Reads as add-share-reads
 
 abbrev Inv-loop : tie.InvT-loop
 Inv-loop s key block₀ i₀ block i =
@@ -37,8 +34,9 @@ loop-less c = search needs
 loop-again : tie.Need-loop-again Inv-loop μ-loop
 loop-again c =
     let l = c .before .before .before .before .loop in
+    let a = c .before .before .before .before .before .args in
     turned-more (l .inv) (c .add-share .ensures)
-    (ap (λ (x : ℕ). present.roundKey present.size80 (shareAt 10 (c .before .before .before .before .before .args .key .now) (l .i)) ⊕ x) (l .inv .ahead (l .i) (omega arith)))
+    (ap (λ (x : ℕ). present.roundKey present.size80 (shareAt 10 (a .key .now) (l .i)) ⊕ x) (l .inv .ahead (l .i) (omega arith)))
 
 returns : tie.Need-returns Inv-loop μ-loop
 unfolding sharing sharesOf

@@ -1,13 +1,9 @@
 -- `shares::add_round_number` meets its contract.
-use native.Mathlib.Omega.{arith}
 use Rattle.present.specs.Present as present
 use Rattle.layers.proofs.View.{changed-alone}
 use borrow.Author.Needs.{needs}
 use Rattle.layers.proofs.shares.add_round_number.Statement.{statement}
 use Rattle.layers.proofs.shares.add_round_number.Tie as tie
-use Rattle.layers.proofs.shares.add_round_number.Reads as reads
-use Rattle.layers.proofs.shares.add_round_number.Lts as lts
-use Rattle.layers.proofs.share.add_number.Reads as add-number-reads
 
 add-number-requires : tie.Need-add-number-requires
 add-number-requires c κs = search needs

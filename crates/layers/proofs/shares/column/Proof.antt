@@ -1,5 +1,5 @@
 -- `shares::column` meets its contract. The invariant: the shares before number i are filled.
-use mathlib.Core.Path.{_≡_, sym, ap, ap₂, _∙_}
+use mathlib.Core.Path.{_≡_, sym, _∙_}
 use Prim.Native.Nat.{_-_, _≤_}
 use native.Mathlib.Omega.{arith}
 use Rattle.steps.specs.Sharing.{Filled}
@@ -12,9 +12,6 @@ use Rattle.layers.proofs.View.{map-given, filled-given}
 use borrow.Author.Needs.{needs}
 use Rattle.layers.proofs.shares.column.Statement.{statement}
 use Rattle.layers.proofs.shares.column.Tie as tie
-use Rattle.layers.proofs.shares.column.Reads as reads
-use Rattle.layers.proofs.shares.column.Lts as lts
-use Rattle.layers.proofs.share.nibble.Reads as nibble-reads
 
 abbrev Inv-loop : tie.InvT-loop
 Inv-loop w s k l c₀ i₀ c i = (i ≤ s) × Filled (λ j. present.nibble k (shareAt w l j)) i c
@@ -47,7 +44,8 @@ returns c =
     let a = c .before .before .before .args in
     let l = c .before .loop in
     let e : l .i ≡ a .s = omega arith in
-    filled-given (a .s) (search needs) (rw e at (l .inv .1)) ∙ sym (map-given (a .s) (search needs) (nibble-linear 0 (a .k)) (shareAt (a .w) (a .l .now)))
+    filled-given (a .s) (search needs) (rw e at (l .inv .1))
+    ∙ sym (map-given (a .s) (search needs) (nibble-linear 0 (a .k)) (shareAt (a .w) (a .l .now)))
 
 pub column-spec : {M : Type 1} → statement M
 column-spec =

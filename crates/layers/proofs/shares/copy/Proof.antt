@@ -1,6 +1,6 @@
 -- `shares::copy` meets its contract. The invariant: the first i bytes are copied.
 use mathlib.Core.Path.{_≡_, refl, sym, ap, _∙_}
-use Prim.Native.Nat.{ℕ, _+_, _-_, _≤_, _<_}
+use Prim.Native.Nat.{ℕ, _-_, _≤_}
 use native.Mathlib.Nat.{zero-add}
 use native.Mathlib.Numerals.{add-one}
 use native.Mathlib.Omega.{arith}
@@ -9,8 +9,6 @@ use lib.Seq.{paste, paste-zero, paste-suc}
 use borrow.Author.Needs.{needs}
 use Rattle.layers.proofs.shares.copy.Statement.{statement}
 use Rattle.layers.proofs.shares.copy.Tie as tie
-use Rattle.layers.proofs.shares.copy.Reads as reads
-use Rattle.layers.proofs.shares.copy.Lts as lts
 
 abbrev Inv-loop : tie.InvT-loop
 Inv-loop from to₀ i₀ to i = (i ≤ length from) × (to ≡ paste to₀ 0 from i) × (length to ≡ length to₀)

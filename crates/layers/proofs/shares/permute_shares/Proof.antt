@@ -1,6 +1,6 @@
 -- `shares::permute_shares` meets its contract. The invariant: the shares before number i are permuted.
-use mathlib.Core.Path.{_≡_, sym, ap, ap₂, _∙_}
-use Prim.Native.Nat.{_-_, _≤_}
+use mathlib.Core.Path.{sym, ap, _∙_}
+use Prim.Native.Nat.{_-_}
 use native.Mathlib.Omega.{arith}
 use Rattle.present.specs.Present as present
 use Rattle.present.proofs.Numbers.{permute-linear}
@@ -9,9 +9,6 @@ use Rattle.layers.proofs.View.{map-given, Turned, turned-none, turned-m
 use borrow.Author.Needs.{needs}
 use Rattle.layers.proofs.shares.permute_shares.Statement.{statement}
 use Rattle.layers.proofs.shares.permute_shares.Tie as tie
-use Rattle.layers.proofs.shares.permute_shares.Reads as reads
-use Rattle.layers.proofs.shares.permute_shares.Lts as lts
-use Rattle.layers.proofs.share.permute_share.Reads as permute-share-reads
 
 abbrev Inv-loop : tie.InvT-loop
 Inv-loop s block₀ i₀ block i = Turned 8 (λ j. present.permute (shareAt 8 block₀ j)) i block₀ block
@@ -33,7 +30,8 @@ loop-less c = search needs
 
 loop-again : tie.Need-loop-again Inv-loop μ-loop
 loop-again c =
-    let l = c .before .before .before .loop in turned-more (l .inv) (c .permute-share .ensures) (ap present.permute (l .inv .ahead (l .i) (omega arith)))
+    let l = c .before .before .before .loop in
+    turned-more (l .inv) (c .permute-share .ensures) (ap present.permute (l .inv .ahead (l .i) (omega arith)))
 
 returns : tie.Need-returns Inv-loop μ-loop
 unfolding sharing sharesOf

@@ -1,5 +1,5 @@
 -- `shares::replace_column` meets its contract. The invariant: the nibble is replaced in the shares before number i.
-use mathlib.Core.Path.{_≡_, refl, sym, ap, ap₂, _∙_}
+use mathlib.Core.Path.{_≡_, refl, sym, ap, _∙_}
 use mathlib.Core.List.{List}
 use Prim.Native.Nat.{ℕ, _+_, _-_, _*_, _≤_}
 use native.Mathlib.Omega.{arith}
@@ -15,9 +15,6 @@ use Rattle.layers.proofs.View.{is-given, wise-given, Turned, turned-non
 use borrow.Author.Needs.{needs}
 use Rattle.layers.proofs.shares.replace_column.Statement.{statement}
 use Rattle.layers.proofs.shares.replace_column.Tie as tie
-use Rattle.layers.proofs.shares.replace_column.Reads as reads
-use Rattle.layers.proofs.shares.replace_column.Lts as lts
-use Rattle.layers.proofs.share.replace.Reads as replace-reads
 
 abbrev Inv-loop : tie.InvT-loop
 Inv-loop w s k v l₀ i₀ l i = (length l ≡ length l₀) × Turned w (λ j. present.replace k (shareAt w l₀ j) (share v j)) i l₀ l

@@ -7,3 +7,4 @@ pub mod Box
 pub mod Theorems
 pub mod Output
 pub mod Answers
+pub mod Watched

@@ -17,3 +17,4 @@ pub mod TableFigures
 pub mod Widths
 pub mod Calls
 pub mod Answers
+pub mod Watched

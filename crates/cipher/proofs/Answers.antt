@@ -11,7 +11,7 @@ use lib.ListN.{length, length-replicate}
 use Rattle.xor.specs.Sum.{join, Small}
 use Rattle.refusal.specs.Outcome.{Outcome, done, refused, andThen}
 use Rattle.refusal.specs.Large.{firstLarge, LargeAlike}
-use Rattle.refusal.proofs.Outcome.{then-passed}
+use Rattle.refusal.proofs.Outcome.{then-passed, done-values, then-alike}
 use Rattle.refusal.proofs.Large.{large-same}
 use Rattle.steps.specs.Tape.{elements, bytesFor}
 use Rattle.steps.proofs.Tape.{elements-length}
@@ -75,17 +75,10 @@ answers-alike : (r : List ℕ) (s : ℕ) {key key′ block block′ random rando
     → andThen (callTests r s key block random fits) (next (callCounts r s key block random))
     ≡ andThen (callTests r s key′ block′ random′ fits) (next (callCounts r s key′ block′ random′))
 answers-alike r s {key} {key′} {block} {block′} {random} {random′} h fits next =
-    go (callTests r s key block random fits) refl
-  where
-    go : (a : Outcome) → callTests r s key block random fits ≡ a
-        → andThen (callTests r s key block random fits) (next (callCounts r s key block random))
-        ≡ andThen (callTests r s key′ block′ random′ fits) (next (callCounts r s key′ block′ random′))
-    go (done v) p =
-        let q = sym (tests-alike r s h fits) ∙ p in
-        let here = counts-figures r s key block random fits (h .key-bytes) (h .block-bytes) p in
-        let there = counts-figures r s key′ block′ random′ fits (h .key-bytes′) (h .block-bytes′) q in
-        rw (p, q) (ap next (here ∙ sym there))
-    go (refused k l) p = let q = sym (tests-alike r s h fits) ∙ p in rw (p, q)
+    let same = tests-alike r s h fits in
+    then-alike (callTests r s key block random fits) next (callCounts r s key block random) (callCounts r s key′ block′ random′) same
+    (λ v p. counts-figures r s key block random fits (h .key-bytes) (h .block-bytes) p
+    ∙ sym (counts-figures r s key′ block′ random′ fits (h .key-bytes′) (h .block-bytes′) (sym same ∙ p)))
 
 pub block-answers : (r : List ℕ) (s : ℕ) {key key′ block block′ random random′ : List ℕ} (out : ℕ) → SamePlaces key key′ block block′ random random′
     → blockOutcome r s key block random out ≡ blockOutcome r s key′ block′ random′ out
@@ -105,7 +98,4 @@ pub block-figures : (r : List ℕ) (s : ℕ) (key block random : List ℕ) (out 
 unfolding blockOutcome
 block-figures r s key block random out hk hb e =
     let a = then-passed (callTests r s key block random (eqb out (8 * s))) _ e in
-    values-of (sym (a .2)) ∙ counts-figures r s key block random (eqb out (8 * s)) hk hb (a .1)
-  where
-    values-of : {v w : List ℕ} → done v ≡ done w → v ≡ w
-    values-of e = cc
+    done-values (sym (a .2)) ∙ counts-figures r s key block random (eqb out (8 * s)) hk hb (a .1)

@@ -33,7 +33,7 @@ use Rattle.decomposition.proofs.Reading.{read-values, read-accepted}
 use Rattle.sbox.specs.Operations.{widthOf}
 use Rattle.sbox.proofs.Record.{accepted-record}
 use Rattle.sbox.proofs.Runs.{result-sharing, result-places}
-use Rattle.sbox.proofs.Calls.{all-below}
+use Rattle.sbox.proofs.Calls.{few-pairs, all-below}
 use Rattle.present.specs.Present.{table}
 use Rattle.layers.specs.State.{shareAt, sharesOf, sharing, bytesOf}
 use Rattle.layers.proofs.View.{share-sharing}
@@ -43,9 +43,6 @@ use Rattle.cipher.specs.Figures.{blockProducts, blockDraws, blockSteps}
 use Rattle.cipher.specs.Operations.{callProgram, callCounts, computesTable, recordTests, argumentTests, callTests, blockOutput, watchOutput, Callable}
 
 -- ---- numbers stay small
-
-pub few-pairs : {s : ℕ} → s ≤ 9 → s * (s - 1) ≤ 72
-few-pairs h = mul-le-mul {n₂ = 9} {m₂ = 8} h (omega arith)
 
 pub few-squares : {s : ℕ} → s ≤ 9 → s * s ≤ 81
 few-squares h = mul-le-mul {n₂ = 9} {m₂ = 9} h h

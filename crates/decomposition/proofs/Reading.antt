@@ -12,7 +12,7 @@ use borrow.Author.Tests.{eqb-true, leb-true}
 use Rattle.refusal.specs.Large.{firstLarge}
 use Rattle.refusal.specs.Outcome.{done}
 use Rattle.refusal.proofs.Large.{all-small}
-use Rattle.refusal.proofs.Outcome.{passed}
+use Rattle.refusal.proofs.Outcome.{passed, done-values}
 use Rattle.decomposition.specs.Check.{checkAt, firstDifference, recordForm}
 use Rattle.decomposition.specs.Form.{Computes}
 use Rattle.decomposition.specs.Layout.{known, layout, Sizes}
@@ -40,11 +40,8 @@ read-values r h =
             rw (← i)
             (all-small bound (drop 6 r) (omega (arith, i, pow-pos n)) (leb-true (length (drop 6 r)) (firstLarge bound (drop 6 r)) (e .0)) k);
       },
-      ap (λ (k : ℕ). k ∷ []) (sym (layout-width n)) ∙ values-of (e .1),
+      ap (λ (k : ℕ). k ∷ []) (sym (layout-width n)) ∙ done-values (e .1),
     )
-  where
-    values-of : {v w : List ℕ} → done v ≡ done w → v ≡ w
-    values-of e = cc
 
 pub read-accepted : (r : List ℕ) (n : ℕ) → readOutcome r ≡ done (n ∷ []) → Accepted n r
 read-accepted r n h =

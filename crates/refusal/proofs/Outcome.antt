@@ -1,5 +1,5 @@
 -- Tests that pass and fail, and the two ways in which an operation with one output slice returns.
-use mathlib.Core.Path.{_≡_, refl, sym, _∙_}
+use mathlib.Core.Path.{_≡_, refl, sym, ap, _∙_}
 use mathlib.Core.Bool.{Bool, true, false, not}
 use mathlib.Core.List.{List}
 use Prim.Native.Nat.{ℕ}
@@ -26,6 +26,16 @@ pub then-passed : (o next : Outcome) {numbers : List ℕ} → andThen o next ≡
     → (first : List ℕ) × (o ≡ done first) × (next ≡ done numbers)
 then-passed (done first) next e = (first, refl, e)
 then-passed (refused number place) next e = let z : _≡_ {A = ℕ} 0 1 = cc in absurd (omega arith)
+
+-- what is handed back is settled by the outcome
+pub done-values : {v w : List ℕ} → done v ≡ done w → v ≡ w
+done-values e = cc
+
+-- Two calls answer alike if their tests do and, where these are passed, what is handed on is the same.
+pub then-alike : (o : Outcome) {o′ : Outcome} (next : List ℕ → Outcome) (c c′ : List ℕ) → o ≡ o′ → ((v : List ℕ) → o ≡ done v → c ≡ c′)
+    → andThen o (next c) ≡ andThen o′ (next c′)
+then-alike (done v) next c c′ e h = ap next (h v refl) ∙ ap (λ (p : Outcome). andThen p (next c′)) e
+then-alike (refused number place) next c c′ e h = ap (λ (p : Outcome). andThen p (next c′)) e
 
 -- the operation is refused, and has written nothing
 pub refuses : {outcome : Outcome} {number place : ℕ} {new old : List ℕ}

@@ -22,7 +22,7 @@ use Rattle.sbox.proofs.Record.{accepted-record}
 use Rattle.sbox.proofs.Runs.{trace-length, draws-are, products-length}
 use Rattle.sbox.proofs.Calls.{tests-passed}
 use Rattle.refusal.specs.Range.{oneTo}
-use Rattle.refusal.proofs.Outcome.{passed, then-passed}
+use Rattle.refusal.proofs.Outcome.{passed, then-passed, done-values, then-alike}
 use Rattle.decomposition.specs.Record.{readOutcome}
 use borrow.Author.Tests.{leb-true}
 
@@ -105,21 +105,9 @@ answers-alike : (r : List ℕ) (s : ℕ) {shares shares′ random random′ : Li
     → andThen (callTests r s shares random fits) (next (callCounts r s shares random))
     ≡ andThen (callTests r s shares′ random′ fits) (next (callCounts r s shares′ random′))
 answers-alike r s {shares} {shares′} {random} {random′} h fits next =
-    go (callTests r s shares random fits) (callTests r s shares′ random′ fits) refl refl (tests-alike r s h fits)
-  where
-    go : (a b : Outcome) → callTests r s shares random fits ≡ a → callTests r s shares′ random′ fits ≡ b → callTests r s shares random fits ≡ callTests r s shares′ random′ fits
-        → andThen a (next (callCounts r s shares random)) ≡ andThen b (next (callCounts r s shares′ random′))
-    go (done v) (done w) p q e =
-        ap next (counts-figures r s shares random fits p ∙ sym (counts-figures r s shares′ random′ fits q))
-    go (refused k l) (refused k′ l′) p q e = sym p ∙ e ∙ q
-    go (done v) (refused k l) p q e = absurd (never (sym p ∙ e ∙ q))
-      where
-        never : {v : List ℕ} {k l : ℕ} → done v ≡ refused k l → ⊥
-        never e = let z : _≡_ {A = ℕ} 0 1 = cc in omega arith
-    go (refused k l) (done v) p q e = absurd (never (sym q ∙ sym e ∙ p))
-      where
-        never : {v : List ℕ} {k l : ℕ} → done v ≡ refused k l → ⊥
-        never e = let z : _≡_ {A = ℕ} 0 1 = cc in omega arith
+    let same = tests-alike r s h fits in
+    then-alike (callTests r s shares random fits) next (callCounts r s shares random) (callCounts r s shares′ random′) same
+    (λ v p. counts-figures r s shares random fits p ∙ sym (counts-figures r s shares′ random′ fits (sym same ∙ p)))
 
 pub sbox-answers : (r : List ℕ) (s : ℕ) {shares shares′ random random′ : List ℕ} (out : ℕ) → SamePlaces (widthOf r) shares shares′ random random′
     → sboxOutcome r s shares random out ≡ sboxOutcome r s shares′ random′ out
@@ -139,7 +127,4 @@ pub sbox-figures : (r : List ℕ) (s : ℕ) (shares random : List ℕ) (out : �
 unfolding sboxOutcome
 sbox-figures r s shares random out e =
     let a = then-passed (callTests r s shares random (eqb out s)) _ e in
-    values-of (sym (a .2)) ∙ counts-figures r s shares random (eqb out s) (a .1)
-  where
-    values-of : {v w : List ℕ} → done v ≡ done w → v ≡ w
-    values-of e = cc
+    done-values (sym (a .2)) ∙ counts-figures r s shares random (eqb out s) (a .1)

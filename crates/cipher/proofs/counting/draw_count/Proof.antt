@@ -2,7 +2,7 @@
 use mathlib.Core.Path.{refl}
 use native.Mathlib.Omega.{arith}
 use Rattle.cipher.specs.Figures.{blockDraws}
-use Rattle.cipher.proofs.Calls.{few-pairs}
+use Rattle.sbox.proofs.Calls.{few-pairs}
 use borrow.Author.Needs.{needs}
 use Rattle.cipher.proofs.counting.draw_count.Statement.{statement}
 use Rattle.cipher.proofs.counting.draw_count.Tie as tie

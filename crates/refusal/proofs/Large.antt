@@ -1,31 +1,51 @@
 -- The first entry that is too large, as a search comes to it, and what follows where there is none.
 use mathlib.Core.Path.{_≡_, refl, ap₂, sym, ap, _∙_}
-use mathlib.Core.Bool.{Bool, cond}
+use mathlib.Core.Bool.{Bool, false, cond}
 use mathlib.Core.List.{List, [], _∷_, _++_}
 use Prim.Native.Nat.{ℕ, zero, suc, _≤_, _<_, _+_}
 use native.Mathlib.Nat.{zero-add}
 use native.Mathlib.Decide.{decLt}
 use native.Mathlib.Omega.{arith}
+use lib.Dec.{leb}
 use borrow.Author.Tests.{lt-ltb, le-ltb, le-leb, lt-leb}
-use lib.ListN.{length, getD, drop, length-append}
-use lib.Seq.{drop-cons, drop-length}
+use lib.ListN.{length, getD, length-append}
 use Rattle.refusal.specs.Outcome.{Outcome, refused}
 use Rattle.refusal.specs.Large.{firstLarge, LargeAlike, testBelow}
 
--- ---- the entries from i on
+-- ---- a search that has come to entry i
 
-pub large-here : (bound : ℕ) (l : List ℕ) (i : ℕ) → i < length l → bound ≤ getD l i 0 → firstLarge bound (drop i l) ≡ 0
+-- it ends at an entry that is too large
+pub large-found : (bound : ℕ) (l : List ℕ) (i : ℕ) → i < length l → bound ≤ getD l i 0 → firstLarge bound l ≤ i
 unfolding firstLarge
-large-here bound l i h g = rw (drop-cons l i 0 h, le-ltb (getD l i 0) bound g) refl
+large-found bound [] i h g = absurd (omega arith)
+large-found bound (x ∷ l) zero h g = rw (le-ltb x bound g) (omega arith)
+large-found bound (x ∷ l) (suc i) h g = elim (decLt x bound) [
+  | yes k ↦ rw (lt-ltb x bound k) (omega (arith, large-found bound l i (omega arith) g))
+  | no k ↦ rw (le-ltb x bound (omega arith)) (omega arith)
+]
 
-pub large-past : (bound : ℕ) (l : List ℕ) (i : ℕ) → i < length l → getD l i 0 < bound
-    → firstLarge bound (drop i l) ≡ suc (firstLarge bound (drop (suc i) l))
+-- and goes past one that is not
+pub large-past : (bound : ℕ) (l : List ℕ) (i : ℕ) → i < length l → getD l i 0 < bound → i ≤ firstLarge bound l → i < firstLarge bound l
 unfolding firstLarge
-large-past bound l i h g = rw (drop-cons l i 0 h, lt-ltb (getD l i 0) bound g) refl
+large-past bound [] i h g k = absurd (omega arith)
+large-past bound (x ∷ l) zero h g k = rw (lt-ltb x bound g) (omega arith)
+large-past bound (x ∷ l) (suc i) h g k = elim (decLt x bound) [
+  | yes j ↦
+      let e : firstLarge bound (x ∷ l) ≡ suc (firstLarge bound l) = rw (lt-ltb x bound j) refl in
+      omega (arith, e, large-past bound l i (omega arith) g (omega (arith, e)))
+  | no j ↦ let e : firstLarge bound (x ∷ l) ≡ 0 = rw (le-ltb x bound (omega arith)) refl in absurd (omega (arith, e))
+]
 
-pub large-end : (bound : ℕ) (l : List ℕ) → firstLarge bound (drop (length l) l) ≡ 0
-unfolding firstLarge
-large-end bound l = rw (drop-length l) refl
+-- whether all entries before the next are below the bound, by those before i and entry i
+module _ (bound : ℕ) (l : List ℕ) (i : ℕ) (h : i < length l) where
+  pub reached-found : bound ≤ getD l i 0 → leb (i + 1) (firstLarge bound l) ≡ false
+  reached-found g = lt-leb (i + 1) (firstLarge bound l) (omega (arith, large-found bound l i h g))
+
+  pub reached-past : getD l i 0 < bound → leb (i + 1) (firstLarge bound l) ≡ leb i (firstLarge bound l)
+  reached-past g = elim (decLt (firstLarge bound l) i) [
+    | yes k ↦ lt-leb (i + 1) (firstLarge bound l) (omega arith) ∙ sym (lt-leb i (firstLarge bound l) k)
+    | no k ↦ le-leb (i + 1) (firstLarge bound l) (omega (arith, large-past bound l i h g (omega arith))) ∙ sym (le-leb i (firstLarge bound l) (omega arith))
+  ]
 
 -- ---- no such entry
 

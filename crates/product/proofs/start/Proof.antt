@@ -4,14 +4,14 @@ use Rattle.product.proofs.Runs.{start-runs}
 use Rattle.product.proofs.start.Statement.{statement}
 use Rattle.product.proofs.start.Tie as tie
 
-element-copy-out-mul : tie.Need-element-copy-out-mul
-element-copy-out-mul c = search needs
+element-copy-out-double-and-add : tie.Need-element-copy-out-double-and-add
+element-copy-out-double-and-add c = search needs
 
-element-copy-out-mul-2 : tie.Need-element-copy-out-mul-2
-element-copy-out-mul-2 c = search needs
+element-copy-out-double-and-add-2 : tie.Need-element-copy-out-double-and-add-2
+element-copy-out-double-and-add-2 c = search needs
 
-mul-requires : tie.Need-mul-requires
-mul-requires c κs = search needs
+double-and-add-requires : tie.Need-double-and-add-requires
+double-and-add-requires c κs = search needs
 
 record-requires : tie.Need-record-requires
 record-requires c κs = search needs
@@ -30,9 +30,9 @@ pub start-spec : {M : Type 1} → statement M
 start-spec =
     tie.close
     (tie.spec
-    element-copy-out-mul
-    element-copy-out-mul-2
-    mul-requires
+    element-copy-out-double-and-add
+    element-copy-out-double-and-add-2
+    double-and-add-requires
     record-requires
     element-write-c
     same-length

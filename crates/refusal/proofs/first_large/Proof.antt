@@ -1,68 +1,30 @@
--- `refusal::first_large` meets its contract. The invariant: the entries passed are below the bound.
-use mathlib.Core.Path.{_≡_, sym}
-use Prim.Native.Nat.{_+_, _-_, _≤_}
-use native.Mathlib.Nat.{zero-add}
-use native.Mathlib.Numerals.{add-one}
+-- `refusal::first_large` meets its contract. Where all entries are below the bound, the place is the length; else the search finds it.
+use mathlib.Core.Path.{sym, _∙_}
+use Prim.Native.Nat.{_≤_}
 use native.Mathlib.Omega.{arith}
-use lib.ListN.{length, drop}
+use lib.ListN.{length}
+use borrow.Author.Needs.{needs}
+use borrow.Author.Tests.{leb-true, leb-false}
 use Rattle.refusal.specs.Large.{firstLarge}
-use Rattle.refusal.proofs.Large.{large-here, large-past, large-end}
+use Rattle.refusal.proofs.Large.{large-within}
 use Rattle.refusal.proofs.first_large.Statement.{statement}
 use Rattle.refusal.proofs.first_large.Tie as tie
 
-abbrev Inv-loop : tie.InvT-loop
-Inv-loop bound entries i₀ i = (i ≤ length entries) × (firstLarge bound entries ≡ i + firstLarge bound (drop i entries))
+all-below-requires : tie.Need-all-below-requires
+all-below-requires c κs = search needs
 
-abbrev μ-loop : tie.MeasureT-loop
-μ-loop bound entries i₀ i = length entries - i
-
-loop-holds : tie.Need-loop-holds Inv-loop μ-loop
-loop-holds c = (omega arith, sym (zero-add _))
-
-shared-slice-read-if1 : tie.Need-shared-slice-read-if1 Inv-loop μ-loop
-shared-slice-read-if1 c = omega arith
-
-returns : tie.Need-returns Inv-loop μ-loop
+returns : tie.Need-returns
 returns c =
-    let loop = c .before .before .before in
-    let start = loop .before in
-    omega (arith, loop .loop .inv .1, large-here (start .args .bound) (start .args .entries .now) (loop .loop .i) (c .before .before .loop-test .taken) (c .if1 .taken))
+    let bound = c .before .before .before .args .bound in
+    let l = c .before .before .before .args .entries .now in
+    let all : length l ≤ firstLarge bound l = leb-true _ _ (sym (c .before .all-below .ensures) ∙ c .if1 .taken) in
+    omega (arith, all, large-within bound l)
 
-add-i : tie.Need-add-i Inv-loop μ-loop
-add-i c = omega arith
+find-large-requires : tie.Need-find-large-requires
+find-large-requires c κs = leb-false _ _ (sym (c .before .all-below .ensures) ∙ c .if1 .left)
 
-loop-less : tie.Need-loop-less Inv-loop μ-loop
-loop-less c = omega arith
-
-loop-again : tie.Need-loop-again Inv-loop μ-loop
-loop-again c =
-    let loop = c .before .before .before in
-    let start = loop .before in
-    let i = loop .loop .i in (
-      omega arith,
-      rw (add-one i)
-          (omega (arith, loop .loop .inv .1, large-past (start .args .bound) (start .args .entries .now) i (c .before .before .loop-test .taken) (c .if1 .left))),
-    )
-
-returns-2 : tie.Need-returns-2 Inv-loop μ-loop
-returns-2 c =
-    let loop = c .before in
-    let start = loop .before in
-    let e : loop .loop .i ≡ length (start .args .entries .now) = omega arith in
-    let none : firstLarge (start .args .bound) (drop (loop .loop .i) (start .args .entries .now)) ≡ 0 =
-    rw e (large-end (start .args .bound) (start .args .entries .now)) in
-    omega (arith, loop .loop .inv .1, none)
+returns-2 : tie.Need-returns-2
+returns-2 c = search needs
 
 pub first-large-spec : {M : Type 1} → statement M
-first-large-spec =
-    tie.close
-    (tie.spec
-    Inv-loop
-    μ-loop
-    loop-holds
-    shared-slice-read-if1
-    returns
-    add-i
-    loop-less
-    loop-again
-    returns-2)
+first-large-spec = tie.close (tie.spec all-below-requires returns find-large-requires returns-2)

@@ -1,23 +1,21 @@
--- `refusal::first_past` meets its contract. The invariant: the numbers passed are below the total.
-use mathlib.Core.Path.{_≡_, sym}
-use Prim.Native.Nat.{_+_, _-_, _≤_}
-use native.Mathlib.Nat.{zero-add}
-use native.Mathlib.Numerals.{add-one}
+-- `refusal::first_past` meets its contract. The invariant: the first number that is too large is not passed yet.
+use mathlib.Core.Path.{_≡_}
+use Prim.Native.Nat.{_-_, _≤_}
 use native.Mathlib.Omega.{arith}
-use lib.ListN.{length, drop}
+use lib.ListN.{length}
 use Rattle.refusal.specs.Large.{firstLarge}
-use Rattle.refusal.proofs.Large.{large-here, large-past, large-end}
+use Rattle.refusal.proofs.Large.{large-found, large-past, large-within}
 use Rattle.refusal.proofs.first_past.Statement.{statement}
 use Rattle.refusal.proofs.first_past.Tie as tie
 
 abbrev Inv-loop : tie.InvT-loop
-Inv-loop total list i₀ i = (i ≤ length list) × (firstLarge total list ≡ i + firstLarge total (drop i list))
+Inv-loop total list i₀ i = (i ≤ length list) × (i ≤ firstLarge total list)
 
 abbrev μ-loop : tie.MeasureT-loop
 μ-loop total list i₀ i = length list - i
 
 loop-holds : tie.Need-loop-holds Inv-loop μ-loop
-loop-holds c = (omega arith, sym (zero-add _))
+loop-holds c = (omega arith, omega arith)
 
 mul-if1 : tie.Need-mul-if1 Inv-loop μ-loop
 mul-if1 c = omega arith
@@ -29,7 +27,7 @@ returns : tie.Need-returns Inv-loop μ-loop
 returns c =
     let loop = c .before .before .before in
     let start = loop .before in
-    omega (arith, loop .loop .inv .1, large-here (start .args .total) (start .args .list .now) (loop .loop .i) (c .before .before .loop-test .taken) (c .if1 .taken))
+    omega (arith, loop .loop .inv .1, large-found (start .args .total) (start .args .list .now) (loop .loop .i) (c .before .before .loop-test .taken) (c .if1 .taken))
 
 add-i : tie.Need-add-i Inv-loop μ-loop
 add-i c = omega arith
@@ -43,18 +41,14 @@ loop-again c =
     let start = loop .before in
     let i = loop .loop .i in (
       omega arith,
-      rw (add-one i)
-          (omega (arith, loop .loop .inv .1, large-past (start .args .total) (start .args .list .now) i (c .before .before .loop-test .taken) (c .if1 .left))),
+      omega (arith, large-past (start .args .total) (start .args .list .now) i (c .before .before .loop-test .taken) (c .if1 .left) (loop .loop .inv .1)),
     )
 
 returns-2 : tie.Need-returns-2 Inv-loop μ-loop
 returns-2 c =
     let loop = c .before in
     let start = loop .before in
-    let e : loop .loop .i ≡ length (start .args .list .now) = omega arith in
-    let none : firstLarge (start .args .total) (drop (loop .loop .i) (start .args .list .now)) ≡ 0 =
-    rw e (large-end (start .args .total) (start .args .list .now)) in
-    omega (arith, loop .loop .inv .1, none)
+    omega (arith, loop .loop .inv .1, large-within (start .args .total) (start .args .list .now))
 
 pub first-past-spec : {M : Type 1} → statement M
 first-past-spec =

@@ -1,4 +1,4 @@
--- What the rows of a table hold: a list of sharings, and 0 past it.
+-- What the rows of a table hold: a list of sharings of s shares, and 0 past it.
 use mathlib.Core.Path.{_≡_, refl, sym, ap, _∙_}
 use mathlib.Core.Logic.{_≢_}
 use mathlib.Core.List.{List, [], _∷_, _++_}
@@ -11,7 +11,7 @@ use Rattle.steps.specs.Sharing.{share}
 use Rattle.steps.proofs.Fill.{getD-tabulate}
 use Rattle.steps.proofs.Sharing.{share-zeros}
 use Rattle.sbox.specs.Sbox.{nth}
-use Rattle.sbox.specs.Table.{cell, setCell, row, putFirst, put}
+use Rattle.sbox.specs.Table.{cell, setCell, row, put}
 
 -- ---- lists of sharings
 
@@ -34,33 +34,33 @@ nth-open (a ∷ l) (suc r) = nth-open l r
 
 -- ---- tables
 
--- row r holds sharing r of the list; the rows past the list are 0
-pub record Holds (t : List ℕ) (l : List (List ℕ)) : Type 0 where
+-- row r holds the s shares of sharing r of the list; the rows past the list are 0
+pub record Holds (s : ℕ) (t : List ℕ) (l : List (List ℕ)) : Type 0 where
   pub size : length t ≡ 252
-  pub cells : (r i : ℕ) → i < 9 → cell t r i ≡ share (nth l r) i
+  pub cells : (r i : ℕ) → i < s → cell t r i ≡ share (nth l r) i
 
-pub holds-none : Holds (replicate 252 0) []
+pub holds-none : {s : ℕ} → Holds s (replicate 252 0) []
 unfolding cell
 holds-none = record { size = length-replicate {A = ℕ} 252 0; cells = λ r i h. share-zeros 252 (9 * r + i) }
 
-pub holds-row : {t : List ℕ} {l : List (List ℕ)} → Holds t l → (r i : ℕ) → i < 9 → share (row t r) i ≡ share (nth l r) i
+pub holds-row : {s : ℕ} {t : List ℕ} {l : List (List ℕ)} → s ≤ 9 → Holds s t l → (r i : ℕ) → i < s → share (row t r) i ≡ share (nth l r) i
 unfolding row
-holds-row {t} h r i k = getD-tabulate 9 (cell t r) i 0 k ∙ h .cells r i k
+holds-row {t = t} nine h r i k = getD-tabulate 9 (cell t r) i 0 (omega arith) ∙ h .cells r i k
 
--- a list whose sharings have the same nine shares
-holds-same : {t : List ℕ} {l m : List (List ℕ)} → ((r i : ℕ) → i < 9 → share (nth l r) i ≡ share (nth m r) i) → Holds t l → Holds t m
+-- a list whose sharings have the same shares
+holds-same : {s : ℕ} {t : List ℕ} {l m : List (List ℕ)} → ((r i : ℕ) → i < s → share (nth l r) i ≡ share (nth m r) i) → Holds s t l → Holds s t m
 holds-same e h = record { size = h .size; cells = λ r i k. h .cells r i k ∙ e r i k }
 
 -- the next row, still 0
-pub holds-open : {t : List ℕ} {l : List (List ℕ)} → Holds t l → Holds t (l ++ ([] ∷ []))
-holds-open {t} {l} h = holds-same (λ r i k. ap (λ (c : List ℕ). share c i) (sym (nth-open l r))) h
+pub holds-open : {s : ℕ} {t : List ℕ} {l : List (List ℕ)} → Holds s t l → Holds s t (l ++ ([] ∷ []))
+holds-open {l = l} h = holds-same (λ r i k. ap (λ (c : List ℕ). share c i) (sym (nth-open l r))) h
 
--- the last row has the same nine shares as c
-pub holds-last : {t : List ℕ} (l : List (List ℕ)) (b c : List ℕ) → ((i : ℕ) → i < 9 → share b i ≡ share c i)
-    → Holds t (l ++ (b ∷ [])) → Holds t (l ++ (c ∷ []))
-holds-last l b c e = holds-same same
+-- the last row has the same shares as c
+pub holds-last : {s : ℕ} {t : List ℕ} (l : List (List ℕ)) (b c : List ℕ) → ((i : ℕ) → i < s → share b i ≡ share c i)
+    → Holds s t (l ++ (b ∷ [])) → Holds s t (l ++ (c ∷ []))
+holds-last {s} l b c e = holds-same same
   where
-    same : (r i : ℕ) → i < 9 → share (nth (l ++ (b ∷ [])) r) i ≡ share (nth (l ++ (c ∷ [])) r) i
+    same : (r i : ℕ) → i < s → share (nth (l ++ (b ∷ [])) r) i ≡ share (nth (l ++ (c ∷ [])) r) i
     same r i k = go (ℕ-discrete r (length l))
       where
         go : Dec (r ≡ length l) → share (nth (l ++ (b ∷ [])) r) i ≡ share (nth (l ++ (c ∷ [])) r) i
@@ -68,24 +68,24 @@ holds-last l b c e = holds-same same
         go (no p) = rw (nth-other l b r p, nth-other l c r p)
 
 -- v is stored as share i of the last row
-pub holds-set : {t : List ℕ} (l : List (List ℕ)) (b c : List ℕ) {i v : ℕ} → length l < 28 → i < 9
+pub holds-set : {s : ℕ} {t : List ℕ} (l : List (List ℕ)) (b c : List ℕ) {i v : ℕ} → s ≤ 9 → length l < 28 → i < 9
     → share c i ≡ v → ((j : ℕ) → j ≢ i → share c j ≡ share b j)
-    → Holds t (l ++ (b ∷ [])) → Holds (setCell t (length l) i v) (l ++ (c ∷ []))
+    → Holds s t (l ++ (b ∷ [])) → Holds s (setCell t (length l) i v) (l ++ (c ∷ []))
 unfolding cell setCell
-holds-set {t} l b c {i} {v} hl hi e f h =
+holds-set {s} {t} l b c {i} {v} nine hl hi e f h =
     record { size = length-set t (9 * length l + i) v ∙ h .size; cells = λ r j k. go r j k (ℕ-discrete r (length l)) (ℕ-discrete j i) }
   where
-    old : (r j : ℕ) → j < 9 → 9 * r + j ≢ 9 * length l + i → share (nth (l ++ (b ∷ [])) r) j ≡ share (nth (l ++ (c ∷ [])) r) j
+    old : (r j : ℕ) → j < s → 9 * r + j ≢ 9 * length l + i → share (nth (l ++ (b ∷ [])) r) j ≡ share (nth (l ++ (c ∷ [])) r) j
         → getD (set t (9 * length l + i) v) (9 * r + j) 0 ≡ share (nth (l ++ (c ∷ [])) r) j
     old r j k p q = getD-set-other t (9 * length l + i) (9 * r + j) v 0 p ∙ h .cells r j k ∙ q
 
-    go : (r j : ℕ) → j < 9 → Dec (r ≡ length l) → Dec (j ≡ i) → getD (set t (9 * length l + i) v) (9 * r + j) 0 ≡ share (nth (l ++ (c ∷ [])) r) j
+    go : (r j : ℕ) → j < s → Dec (r ≡ length l) → Dec (j ≡ i) → getD (set t (9 * length l + i) v) (9 * r + j) 0 ≡ share (nth (l ++ (c ∷ [])) r) j
     go r j k (yes p) (yes q) =
         rw (nth-last l c p, p, q) (getD-set-same t (9 * length l + i) v 0 (omega (arith, h .size)) ∙ sym e)
     go r j k (yes p) (no q) = old r j k (λ x. q (omega arith)) (rw (nth-last l b p, nth-last l c p) (sym (f j q)))
     go r j k (no p) d = old r j k (λ x. p (omega arith)) (rw (nth-other l b r p, nth-other l c r p))
 
--- the sharing c is put into the next row
+-- the s shares of c are put into the next row
 share-take : (k : ℕ) (c : List ℕ) (j : ℕ) → j ≢ k → share (take (suc k) c) j ≡ share (take k c) j
 share-take zero [] j h = refl
 share-take zero (a ∷ c) zero h = absurd (h refl)
@@ -94,13 +94,13 @@ share-take (suc k) [] j h = refl
 share-take (suc k) (a ∷ c) zero h = refl
 share-take (suc k) (a ∷ c) (suc j) h = share-take k c j (λ e. h (ap suc e))
 
-holds-put-first : {t : List ℕ} (l : List (List ℕ)) (c : List ℕ) (k : ℕ) → length l < 28 → k ≤ 9 → Holds t l
-    → Holds (putFirst k t (length l) c) (l ++ (take k c ∷ []))
-unfolding putFirst
-holds-put-first l c zero hl hk h = holds-open h
-holds-put-first l c (suc k) hl hk h =
-    holds-set l (take k c) (take (suc k) c) hl hk (getD-take (suc k) c k 0 (omega arith)) (share-take k c) (holds-put-first l c k hl (omega arith) h)
-
-pub holds-put : {t : List ℕ} (l : List (List ℕ)) (c : List ℕ) → length l < 28 → Holds t l → Holds (put t (length l) c) (l ++ (c ∷ []))
+holds-put-first : {s : ℕ} {t : List ℕ} (l : List (List ℕ)) (c : List ℕ) (k : ℕ) → s ≤ 9 → length l < 28 → k ≤ 9 → Holds s t l
+    → Holds s (put k t (length l) c) (l ++ (take k c ∷ []))
 unfolding put
-holds-put l c hl h = holds-last l (take 9 c) c (λ i k. getD-take 9 c i 0 k) (holds-put-first l c 9 hl (omega arith) h)
+holds-put-first l c zero nine hl hk h = holds-open h
+holds-put-first l c (suc k) nine hl hk h =
+    holds-set l (take k c) (take (suc k) c) nine hl hk (getD-take (suc k) c k 0 (omega arith)) (share-take k c)
+    (holds-put-first l c k nine hl (omega arith) h)
+
+pub holds-put : {s : ℕ} {t : List ℕ} (l : List (List ℕ)) (c : List ℕ) → s ≤ 9 → length l < 28 → Holds s t l → Holds s (put s t (length l) c) (l ++ (c ∷ []))
+holds-put {s} l c nine hl h = holds-last l (take s c) c (λ i k. getD-take s c i 0 k) (holds-put-first l c s nine hl nine h)

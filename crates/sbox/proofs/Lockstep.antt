@@ -35,15 +35,15 @@ for-times : (i s k : ℕ) (f : ℕ → List ℕ → Run (List ℕ)) (t : List �
 unfolding for
 for-times i s k f t e = let d : s - i ≡ k = omega arith in rw d
 
--- ---- the masked product depends on the nine shares alone
+-- ---- the masked product depends on the s shares alone
 
-module _ (n s : ℕ) (nine : s ≤ 9) (a a′ b b′ : List ℕ)
-    (ea : (i : ℕ) → i < 9 → share a i ≡ share a′ i) (eb : (i : ℕ) → i < 9 → share b i ≡ share b′ i) where
-  start-same : (i : ℕ) (c : List ℕ) → i < 9 → start n a b i c ≡ start n a′ b′ i c
+module _ (n s : ℕ) (a a′ b b′ : List ℕ)
+    (ea : (i : ℕ) → i < s → share a i ≡ share a′ i) (eb : (i : ℕ) → i < s → share b i ≡ share b′ i) where
+  start-same : (i : ℕ) (c : List ℕ) → i < s → start n a b i c ≡ start n a′ b′ i c
   unfolding start
   start-same i c h = rw (ea i h, eb i h)
 
-  pair-same : (i j : ℕ) (c : List ℕ) → i < 9 → j < 9 → pair n a b i j c ≡ pair n a′ b′ i j c
+  pair-same : (i j : ℕ) (c : List ℕ) → i < s → j < s → pair n a b i j c ≡ pair n a′ b′ i j c
   unfolding pair
   pair-same i j c h k = rw (ea i h, eb i h, ea j k, eb j k)
 
@@ -62,27 +62,27 @@ module _ (n s : ℕ) (nine : s ≤ 9) where
   -- ---- one row more
 
   -- a row made share by share: turn i gives share i of the next row
-  lockstep-by-share : {t : List ℕ} (l : List (List ℕ)) {f : ℕ → List ℕ → Run (List ℕ)} {g : ℕ → Run ℕ} → length l < 28 → Holds t l
-      → ((i : ℕ) (t c : List ℕ) → i < s → Holds t (l ++ (c ∷ [])) → Lockstep (λ t′ v. t′ ≡ setCell t (length l) i v) (f i t) (g i))
-      → Lockstep (λ t′ c. Holds t′ (l ++ (c ∷ []))) (for 0 s f t) (byShare s g)
+  lockstep-by-share : {t : List ℕ} (l : List (List ℕ)) {f : ℕ → List ℕ → Run (List ℕ)} {g : ℕ → Run ℕ} → length l < 28 → Holds s t l
+      → ((i : ℕ) (t c : List ℕ) → i < s → Holds s t (l ++ (c ∷ [])) → Lockstep (λ t′ v. t′ ≡ setCell t (length l) i v) (f i t) (g i))
+      → Lockstep (λ t′ c. Holds s t′ (l ++ (c ∷ []))) (for 0 s f t) (byShare s g)
   unfolding byShare
   lockstep-by-share {t} l {f} {g} hl h turn =
       lockstep-weaken
-      (lockstep-for (λ i t c. Holds t (l ++ (c ∷ [])) × (length c ≡ 9)) 0 s (omega arith)
+      (lockstep-for (λ i t c. Holds s t (l ++ (c ∷ [])) × (length c ≡ 9)) 0 s (omega arith)
       (λ i t c k m p. lockstep-right (turn i t c m (p .0)) (λ t′ v e. lockstep-done (stored i t c v t′ m p e)))
       t (replicate 9 0) (holds-last l [] (replicate 9 0) (λ i k. sym (share-zeros 9 i)) (holds-open h), refl))
       (λ t′ c p. p .0)
     where
-      stored : (i : ℕ) (t c : List ℕ) (v : ℕ) (t′ : List ℕ) → i < s → Holds t (l ++ (c ∷ [])) × (length c ≡ 9) → t′ ≡ setCell t (length l) i v
-          → Holds t′ (l ++ (set c i v ∷ [])) × (length (set c i v) ≡ 9)
+      stored : (i : ℕ) (t c : List ℕ) (v : ℕ) (t′ : List ℕ) → i < s → Holds s t (l ++ (c ∷ [])) × (length c ≡ 9) → t′ ≡ setCell t (length l) i v
+          → Holds s t′ (l ++ (set c i v ∷ [])) × (length (set c i v) ≡ 9)
       stored i t c v t′ m p e = (
-        rw e (holds-set l c (set c i v) hl (omega arith) (getD-set-same c i v 0 (omega arith)) (λ j q. getD-set-other c i j v 0 q) (p .0)),
+        rw e (holds-set l c (set c i v) nine hl (omega arith) (getD-set-same c i v 0 (omega arith)) (λ j q. getD-set-other c i j v 0 q) (p .0)),
         length-set c i v ∙ p .1,
       )
 
   -- the square of the last row
-  lockstep-square : {t : List ℕ} (l : List (List ℕ)) (a : List ℕ) → length l + 1 < 28 → Holds t (l ++ (a ∷ []))
-      → Lockstep (λ t′ b. Holds t′ ((l ++ (a ∷ [])) ++ (b ∷ []))) (squareRow n s (length l) t) (square n s a)
+  lockstep-square : {t : List ℕ} (l : List (List ℕ)) (a : List ℕ) → length l + 1 < 28 → Holds s t (l ++ (a ∷ []))
+      → Lockstep (λ t′ b. Holds s t′ ((l ++ (a ∷ [])) ++ (b ∷ []))) (squareRow n s (length l) t) (square n s a)
   unfolding squareRow square squareShare note _>>=_
   lockstep-square {t} l a hl h =
       let e : length (l ++ (a ∷ [])) ≡ length l + 1 = length-append l (a ∷ []) in
@@ -93,18 +93,18 @@ module _ (n s : ℕ) (nine : s ≤ 9) where
       rw (v, e) (lockstep-step (lockstep-done refl)))
 
   -- the masked product of two rows
-  lockstep-multiply : {t : List ℕ} (l : List (List ℕ)) (x y : ℕ) → length l < 28 → Holds t l
-      → Lockstep (λ t′ c. Holds t′ (l ++ (c ∷ []))) (multiplyRows n s x y (length l) t) (product n s (nth l x) (nth l y))
+  lockstep-multiply : {t : List ℕ} (l : List (List ℕ)) (x y : ℕ) → length l < 28 → Holds s t l
+      → Lockstep (λ t′ c. Holds s t′ (l ++ (c ∷ []))) (multiplyRows n s x y (length l) t) (product n s (nth l x) (nth l y))
   unfolding multiplyRows
   lockstep-multiply {t} l x y hl h =
-      rw (product-same n s nine (table.row t x) (nth l x) (table.row t y) (nth l y) (holds-row h x) (holds-row h y))
-      (lockstep-left (product n s (nth l x) (nth l y)) (put t (length l)) (λ c. holds-put l c hl h))
+      rw (product-same n s (table.row t x) (nth l x) (table.row t y) (nth l y) (holds-row nine h x) (holds-row nine h y))
+      (lockstep-left (product n s (nth l x) (nth l y)) (put s t (length l)) (λ c. holds-put l c nine hl h))
 
   -- ---- the powers
 
   -- a row, and k more, each the square of the one before
-  lockstep-squares : {t : List ℕ} (k : ℕ) (l : List (List ℕ)) (a : List ℕ) → length l + k < 28 → Holds t (l ++ (a ∷ []))
-      → Lockstep (λ t′ m. Holds t′ (l ++ m) × (length m ≡ suc k)) (loop (squareRow n s) (length l) k t) (squares n s k a)
+  lockstep-squares : {t : List ℕ} (k : ℕ) (l : List (List ℕ)) (a : List ℕ) → length l + k < 28 → Holds s t (l ++ (a ∷ []))
+      → Lockstep (λ t′ m. Holds s t′ (l ++ m) × (length m ≡ suc k)) (loop (squareRow n s) (length l) k t) (squares n s k a)
   unfolding loop squares
   lockstep-squares zero l a hl h = lockstep-done (h, refl)
   lockstep-squares (suc k) l a hl h =
@@ -114,16 +114,16 @@ module _ (n s : ℕ) (nine : s ≤ 9) where
       lockstep-done (rw append-assoc at (q .0), ap suc (q .1)))))
 
   -- the class of a product
-  lockstep-class : {t : List ℕ} (k : ℕ) (l : List (List ℕ)) (x y z last : ℕ) → length l ≡ z → z + k ≡ last → last < 28 → Holds t l
-      → Lockstep (λ t′ m. Holds t′ (l ++ m) × (length m ≡ suc k)) (powerClass n s x y z last t) (product n s (nth l x) (nth l y) >>= squares n s k)
+  lockstep-class : {t : List ℕ} (k : ℕ) (l : List (List ℕ)) (x y z last : ℕ) → length l ≡ z → z + k ≡ last → last < 28 → Holds s t l
+      → Lockstep (λ t′ m. Holds s t′ (l ++ m) × (length m ≡ suc k)) (powerClass n s x y z last t) (product n s (nth l x) (nth l y) >>= squares n s k)
   unfolding powerClass for
   lockstep-class k l x y z last e e′ hl h =
       let d : last - length l ≡ k = omega arith in
       rw (← e) (lockstep-bind (lockstep-multiply l x y (omega arith) h) (λ t′ c p. rw d (lockstep-squares k l c (omega arith) p)))
 
   -- the class of x ^ 11, and all powers
-  lockstep-third : {t : List ℕ} (b : Bool) → eqb n 6 ≡ b → (xs ys : List (List ℕ)) → length xs ≡ n → length ys ≡ n → Holds t (xs ++ ys)
-      → Lockstep (λ t′ ws. Holds t′ ws × (length ws ≡ cond b (3 * n) (2 * n))) (thirdRows b n s t)
+  lockstep-third : {t : List ℕ} (b : Bool) → eqb n 6 ≡ b → (xs ys : List (List ℕ)) → length xs ≡ n → length ys ≡ n → Holds s t (xs ++ ys)
+      → Lockstep (λ t′ ws. Holds s t′ ws × (length ws ≡ cond b (3 * n) (2 * n))) (thirdRows b n s t)
       (thirdClass b n s xs ys >>= (λ zs. done (xs ++ (ys ++ zs))))
   unfolding thirdRows thirdClass _>>=_
   lockstep-third true e xs ys lx ly h =
@@ -136,11 +136,11 @@ module _ (n s : ℕ) (nine : s ≤ 9) where
   lockstep-third {t} false e xs ys lx ly h =
       lockstep-done {a = t} {b = xs ++ (ys ++ [])} (rw append-nil h, simp (append-nil, length-append) (omega arith))
 
-  lockstep-powers : {t : List ℕ} (x : List ℕ) → 1 < n → 2 * n ≤ 28 → Holds t (x ∷ [])
-      → Lockstep (λ t′ ws. Holds t′ ws × (length ws ≡ cond (eqb n 6) (3 * n) (2 * n))) (powerRows n s t) (powers n s x)
+  lockstep-powers : {t : List ℕ} (x : List ℕ) → 1 < n → 2 * n ≤ 28 → Holds s t (x ∷ [])
+      → Lockstep (λ t′ ws. Holds s t′ ws × (length ws ≡ cond (eqb n 6) (3 * n) (2 * n))) (powerRows n s t) (powers n s x)
   unfolding powerRows powers for
   lockstep-powers {t} x wide few h =
-      let first : Lockstep (λ t′ m. Holds t′ m × (length m ≡ suc (n - 1))) (for 0 (n - 1) (squareRow n s) t) (squares n s (n - 1) x) =
+      let first : Lockstep (λ t′ m. Holds s t′ m × (length m ≡ suc (n - 1))) (for 0 (n - 1) (squareRow n s) t) (squares n s (n - 1) x) =
       rw sub-zero (lockstep-squares (n - 1) [] x (omega arith) h) in
       lockstep-bind first (λ t₁ xs p.
       let third : List (List ℕ) → Run (List (List ℕ)) = λ ys. thirdClass (eqb n 6) n s xs ys >>= (λ zs. done (xs ++ (ys ++ zs))) in
@@ -157,8 +157,8 @@ module _ (n s : ℕ) (nine : s ≤ 9) where
 
   module _ (k : ℕ) (listed : length (exponents n) - 1 ≡ k) (rec : List ℕ) (ws : List (List ℕ)) (powered : length ws ≡ k) where
     -- one polynomial, where m stand in the rows after the powers ws
-    lockstep-polynomial : {t : List ℕ} (m : List (List ℕ)) (j : ℕ) (cs : List ℕ) → length m ≡ j → k + j < 28 → Reads k rec j cs → Holds t (ws ++ m)
-        → Lockstep (λ t′ c. Holds t′ ((ws ++ m) ++ (c ∷ []))) (polynomialRow n k s rec j t) (polynomial n s ws cs)
+    lockstep-polynomial : {t : List ℕ} (m : List (List ℕ)) (j : ℕ) (cs : List ℕ) → length m ≡ j → k + j < 28 → Reads k rec j cs → Holds s t (ws ++ m)
+        → Lockstep (λ t′ c. Holds s t′ ((ws ++ m) ++ (c ∷ []))) (polynomialRow n k s rec j t) (polynomial n s ws cs)
     unfolding polynomialRow polynomial polynomialShare
     lockstep-polynomial m j cs lm few reads h =
         let z : length (ws ++ m) ≡ k + j = length-append ws m ∙ omega arith in
@@ -175,8 +175,8 @@ module _ (n s : ℕ) (nine : s ≤ 9) where
 
     -- several, from polynomial j on
     lockstep-polynomials : {t : List ℕ} (m : List (List ℕ)) (j : ℕ) (css : List (List ℕ)) → length m ≡ j → k + j + length css ≤ 28
-        → ((i : ℕ) → i < length css → Reads k rec (j + i) (nth css i)) → Holds t (ws ++ m)
-        → Lockstep (λ t′ l. Holds t′ (ws ++ (m ++ l)) × (length l ≡ length css)) (loop (polynomialRow n k s rec) j (length css) t) (polynomials n s ws css)
+        → ((i : ℕ) → i < length css → Reads k rec (j + i) (nth css i)) → Holds s t (ws ++ m)
+        → Lockstep (λ t′ l. Holds s t′ (ws ++ (m ++ l)) × (length l ≡ length css)) (loop (polynomialRow n k s rec) j (length css) t) (polynomials n s ws css)
     unfolding loop polynomials
     lockstep-polynomials {t} m j [] lm few reads h = lockstep-done {a = t} {b = []} (rw append-nil h, refl)
     lockstep-polynomials m j (cs ∷ css) lm few reads h =
@@ -192,8 +192,8 @@ module _ (n s : ℕ) (nine : s ≤ 9) where
 
   -- the products of the rows of ps and qs, k of them from number j on, where ts stand in the rows after l
   lockstep-products : {t : List ℕ} (k j q p : ℕ) (l ts ps qs : List (List ℕ)) → length ts ≡ j → length l + j + k ≤ 28
-      → ((i : ℕ) → i < j + k → (p + i < length l) × (nth l (p + i) ≡ nth ps i) × (q + i < length l) × (nth l (q + i) ≡ nth qs i)) → Holds t (l ++ ts)
-      → Lockstep (λ t′ m. Holds t′ (l ++ (ts ++ m)) × (length m ≡ k)) (loop (productRow n s q p (length l)) j k t) (products n s ps qs j k)
+      → ((i : ℕ) → i < j + k → (p + i < length l) × (nth l (p + i) ≡ nth ps i) × (q + i < length l) × (nth l (q + i) ≡ nth qs i)) → Holds s t (l ++ ts)
+      → Lockstep (λ t′ m. Holds s t′ (l ++ (ts ++ m)) × (length m ≡ k)) (loop (productRow n s q p (length l)) j k t) (products n s ps qs j k)
   unfolding loop products productRow
   lockstep-products {t} zero j q p l ts ps qs e few rows h = lockstep-done {a = t} {b = []} (rw append-nil h, refl)
   lockstep-products (suc k) j q p l ts ps qs e few rows h =
@@ -211,21 +211,21 @@ module _ (n s : ℕ) (nine : s ≤ 9) where
 
   -- the sum of the products ts and of c, the last row before them
   module _ (t : List ℕ) (h : ℕ) (l ts : List (List ℕ)) (c : List ℕ) (some : 0 < h) (made : length ts ≡ h) (full : 0 < length l)
-      (last : nth l (length l - 1) ≡ c) (holds : Holds t (l ++ ts)) where
+      (last : nth l (length l - 1) ≡ c) (holds : Holds s t (l ++ ts)) where
     -- the turn of the definition's sum, for share i
     turn : ℕ → ℕ → ℕ → Run ℕ
     turn i j u = note (one i) (u ⊕ share (nth (ts ++ (c ∷ [])) (j + 1)) i)
 
-    product-cell : (i j : ℕ) → i < 9 → j < h → cell t (length l + j) i ≡ share (nth (ts ++ (c ∷ [])) j) i
+    product-cell : (i j : ℕ) → i < s → j < h → cell t (length l + j) i ≡ share (nth (ts ++ (c ∷ [])) j) i
     product-cell i j k m =
         holds .cells (length l + j) i k
         ∙ ap (λ (a : List ℕ). share a i) (getD-append-add l ts j [] ∙ sym (List·getD-append ts (c ∷ []) [] j (omega arith)))
 
-    add-same : (i j u : ℕ) → i < 9 → j < h - 1 → addRow i t (length l + 1 + j) u ≡ turn i j u
+    add-same : (i j u : ℕ) → i < s → j < h - 1 → addRow i t (length l + 1 + j) u ≡ turn i j u
     unfolding addRow turn
     add-same i j u k m = let e : length l + 1 + j ≡ length l + (j + 1) = omega arith in rw (e, product-cell i (j + 1) k (omega arith))
 
-    last-same : (i u : ℕ) → i < 9 → addRow i t (length l - 1) u ≡ for (h - 1) h (turn i) u
+    last-same : (i u : ℕ) → i < s → addRow i t (length l - 1) u ≡ for (h - 1) h (turn i) u
     unfolding addRow turn note _>>=_
     last-same i u k =
         let e : cell t (length l - 1) i ≡ share c i =
@@ -233,7 +233,7 @@ module _ (n s : ℕ) (nine : s ≤ 9) where
         let e′ : nth (ts ++ (c ∷ [])) (h - 1 + 1) ≡ c = getD-at ts c [] [] (h - 1 + 1) (omega arith) in
         rw (for-turn (h - 1) h (turn i) u (omega arith), for-end (h - 1 + 1) h (turn i) _ (omega arith), e, e′)
 
-    total-share : (i : ℕ) → i < 9 → totalShare h (length l) t i ≡ for 0 h (turn i) (share (nth (ts ++ (c ∷ [])) 0) i)
+    total-share : (i : ℕ) → i < s → totalShare h (length l) t i ≡ for 0 h (turn i) (share (nth (ts ++ (c ∷ [])) 0) i)
     unfolding totalShare
     total-share i k =
         let e : length l + 0 ≡ length l = omega arith in
@@ -261,7 +261,7 @@ module _ (n s : ℕ) (nine : s ≤ 9) where
 
   module _ (k h : ℕ) (some : 0 < h) (few : k + (h + (h + 1)) + h ≤ 28) where
     -- the products and the sums, where the polynomials bs of the basis and the cs stand after the powers ws
-    lockstep-sums : (t : List ℕ) (ws bs cs : List (List ℕ)) → length ws ≡ k → length bs ≡ h → length cs ≡ h + 1 → Holds t (ws ++ (bs ++ cs))
+    lockstep-sums : (t : List ℕ) (ws bs cs : List (List ℕ)) → length ws ≡ k → length bs ≡ h → length cs ≡ h + 1 → Holds s t (ws ++ (bs ++ cs))
         → Lockstep (λ (a b : List ℕ). a ≡ b)
         (for 0 h (productRow n s k (k + h) (k + (h + (h + 1)))) t >>= (λ t. byShare s (totalShare h (k + (h + (h + 1))) t)))
         (products n s cs bs 0 h >>= (λ ts. total s (ts ++ (nth cs h ∷ [])) h))
@@ -277,10 +277,10 @@ module _ (n s : ℕ) (nine : s ≤ 9) where
         (λ i m. (omega arith, nth-third ws bs cs k h i ew eb, omega arith, nth-second ws bs cs k i ew (omega arith))) (rw append-nil p))
         (λ t′ ts q. rw (total-same t′ h l ts (nth cs h) some (q .1) (omega arith) last (q .0)) (lockstep-self _ (λ a. refl))))
 
-    -- x and y have the same nine shares, and qs and ps are the coefficients of the record's polynomials
+    -- x and y have the same s shares, and qs and ps are the coefficients of the record's polynomials
     module _ (rec : List ℕ) (qs ps : List (List ℕ)) (listed : length (exponents n) - 1 ≡ k) (eq : length qs ≡ h) (ep : length ps ≡ h + 1)
         (rq : (i : ℕ) → i < length qs → Reads k rec (0 + i) (nth qs i)) (rp : (i : ℕ) → i < length ps → Reads k rec (h + i) (nth ps i)) where
-      lockstep-forms : (t : List ℕ) (ws : List (List ℕ)) → length ws ≡ k → Holds t ws
+      lockstep-forms : (t : List ℕ) (ws : List (List ℕ)) → length ws ≡ k → Holds s t ws
           → Lockstep (λ (a b : List ℕ). a ≡ b)
           (for 0 (h + (h + 1)) (polynomialRow n k s rec) t
           >>= (λ t. for 0 h (productRow n s k (k + h) (k + (h + (h + 1)))) t >>= (λ t. byShare s (totalShare h (k + (h + (h + 1))) t))))
@@ -295,11 +295,11 @@ module _ (n s : ℕ) (nine : s ≤ 9) where
           rw eq (lockstep-sums t₂ ws bs cs ew (q .1 ∙ eq) (r .1 ∙ ep) (r .0))))))
 
       -- the program of the code is that of the definition
-      pub rows-same : (x y : List ℕ) → 1 < n → 2 * n ≤ 28 → cond (eqb n 6) (3 * n) (2 * n) ≡ k → ((i : ℕ) → i < 9 → share x i ≡ share y i)
+      pub rows-same : (x y : List ℕ) → 1 < n → 2 * n ≤ 28 → cond (eqb n 6) (3 * n) (2 * n) ≡ k → ((i : ℕ) → i < s → share x i ≡ share y i)
           → sboxRows n k h s rec x ≡ sbox n s qs ps y
       unfolding sboxRows fillRows sbox
       rows-same x y wide narrow made same =
-          let t₀ = put (replicate 252 0) 0 x in
-          let first : Holds t₀ (y ∷ []) = holds-last [] x y same (holds-put [] x (omega arith) holds-none) in
+          let t₀ = put s (replicate 252 0) 0 x in
+          let first : Holds s t₀ (y ∷ []) = holds-last [] x y same (holds-put [] x nine (omega arith) holds-none) in
           lockstep-same
           (rw bind-bind (lockstep-bind (lockstep-powers y wide narrow first) (λ t₁ ws p. rw bind-bind (lockstep-forms t₁ ws (p .1 ∙ made) (p .0)))))

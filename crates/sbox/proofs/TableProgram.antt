@@ -58,9 +58,9 @@ sizes n k h (inr e) ek eh =
 
 -- ---- the theorem
 
--- x and y have the same nine shares
+-- x and y have the same s shares
 pub rows-are-sbox : (n k h s : ℕ) → Width n → length (exponents n) ≡ k + 1 → basisSize n ≡ h → s ≤ 9
-    → (rec x y : List ℕ) → ((i : ℕ) → i < 9 → share x i ≡ share y i)
+    → (rec x y : List ℕ) → ((i : ℕ) → i < s → share x i ≡ share y i)
     → sboxRows n k h s rec x ≡ sbox n s (basisIn n rec) (solutionIn n rec) y
 unfolding basisIn solutionIn
 rows-are-sbox n k h s w ek eh nine rec x y same =

@@ -17,7 +17,7 @@ use Rattle.steps.specs.Machine.{exec, ended, Went}
 use Rattle.steps.proofs.Machine.{then-runs, done-runs}
 use Rattle.product.specs.Product.{product}
 use Rattle.sbox.specs.Sbox.{constant}
-use Rattle.sbox.specs.Table.{cell, setCell, row, putFirst, put}
+use Rattle.sbox.specs.Table.{cell, setCell, row, put}
 use Rattle.sbox.specs.TableSteps.{squareShare, multiplyRows, termAt, addRow}
 
 module _ (tape watch : List ℕ) where
@@ -55,11 +55,11 @@ module _ (tape watch : List ℕ) where
       → a ≡ row t x
       → b ≡ row t y
       → exec tape watch (product w s a b) n vs ≡ ended c n′ vs′
-      → t′ ≡ put t z c
+      → t′ ≡ put s t z c
       → exec tape watch (multiplyRows w s x y z t) n vs ≡ ended t′ n′ vs′
   unfolding multiplyRows
   multiply-runs w s x y z t n vs ea eb e et =
-      then-runs tape watch (product w s (row t x) (row t y)) (λ c. done (put t z c)) n vs (rw (ea, eb) at e) (done-runs tape watch _ _ et)
+      then-runs tape watch (product w s (row t x) (row t y)) (λ c. done (put s t z c)) n vs (rw (ea, eb) at e) (done-runs tape watch _ _ et)
 
 -- a program that has run, and whose result is then changed
 pub went-done : {A B : Type 0} {p q r : ℕ} {tape watch : List ℕ} {m : Run A} {n : Counts} {vs : List ℕ} {x : A} {n′ : Counts} {vs′ : List ℕ} (g : A → B)
@@ -72,8 +72,8 @@ went-done {tape = tape} {watch = watch} {m = m} {n = n} {vs = vs} {n′ = n′} 
 }
 
 -- one more share of a row that is put
-pub put-turn : (k : ℕ) (t₀ : List ℕ) (r : ℕ) (c t : List ℕ) → t ≡ putFirst k t₀ r c → set t (9 * r + k) (getD c k 0) ≡ putFirst (k + 1) t₀ r c
-unfolding putFirst setCell
+pub put-turn : (k : ℕ) (t₀ : List ℕ) (r : ℕ) (c t : List ℕ) → t ≡ put k t₀ r c → set t (9 * r + k) (getD c k 0) ≡ put (k + 1) t₀ r c
+unfolding put setCell
 put-turn k t₀ r c t e = rw (add-one, e)
 
 -- a constant goes to share 0 only

@@ -17,11 +17,7 @@ setCell t r i v = set t (9 * r + i) v
 unfoldable pub row : List ℕ → ℕ → List ℕ
 row t r = tabulate 9 (cell t r)
 
--- the table with the first k shares of c in row r
-unfoldable pub putFirst : ℕ → List ℕ → ℕ → List ℕ → List ℕ
-putFirst zero t r c = t
-putFirst (suc k) t r c = setCell (putFirst k t r c) r k (share c k)
-
--- the table with the sharing c as row r
-unfoldable pub put : List ℕ → ℕ → List ℕ → List ℕ
-put t r c = putFirst 9 t r c
+-- the table with the first s shares of c in row r
+unfoldable pub put : ℕ → List ℕ → ℕ → List ℕ → List ℕ
+put zero t r c = t
+put (suc s) t r c = setCell (put s t r c) r s (share c s)

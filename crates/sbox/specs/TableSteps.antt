@@ -28,7 +28,7 @@ squareRow n s r t = for 0 s (squareShare n r) t
 unfoldable pub multiplyRows : ℕ → ℕ → ℕ → ℕ → ℕ → List ℕ → Run (List ℕ)
 multiplyRows n s x y z t = do
   c ← product n s (row t x) (row t y)
-  done (put t z c)
+  done (put s t z c)
 
 -- the class of a product: that of rows x and y goes to row z, and each row from z on is squared into the next, up to row l
 unfoldable pub powerClass : ℕ → ℕ → ℕ → ℕ → ℕ → ℕ → List ℕ → Run (List ℕ)
@@ -94,5 +94,5 @@ fillRows n k h s rec t = do
 -- the masked S-box of the sharing x
 unfoldable pub sboxRows : ℕ → ℕ → ℕ → ℕ → List ℕ → List ℕ → Run (List ℕ)
 sboxRows n k h s rec x = do
-  t ← fillRows n k h s rec (put (replicate 252 0) 0 x)
+  t ← fillRows n k h s rec (put s (replicate 252 0) 0 x)
   byShare s (totalShare h (k + (h + (h + 1))) t)

@@ -94,7 +94,7 @@ fn evaluate(
         n (now (values .entry)) (w .shares) (w .counts) (now (values .exit)) ⌝ }
 {
     let mut t = [0u8; 252];
-    put(&mut t, 0, x);
+    put(&mut t, s, 0, x);
     let n = fill_rows(width, k, h, s, rec, random, watch, &mut *values, &mut t, n);
     totals(width, s, h, k + (h + (h + 1)), random, watch, values, &t, n)
 }

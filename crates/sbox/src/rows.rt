@@ -10,14 +10,17 @@ ghost use Rattle.sbox.specs.TableCounts.{productDraws, productSteps};
 use product::product;
 use steps::Counts;
 
-// The sharing c becomes row r.
-pub fn put(t: &mut [u8; 252], r: usize, c: &[u8; 9])
-    requires { ⌜ r < 28 ⌝ }
-    ensures { λ u. ⌜ now (t .exit) ≡ table.put (now (t .entry)) r (now (c .entry)) ⌝ }
+// The s shares of c go to row r. They are copied byte by byte, which a fixed number of turns and a test make sure of: they were written so just before,
+// and a wider copy would have to wait for them.
+pub fn put(t: &mut [u8; 252], s: usize, r: usize, c: &[u8; 9])
+    requires { ⌜ (r < 28) × (s ≤ 9) ⌝ }
+    ensures { λ u. ⌜ now (t .exit) ≡ table.put s (now (t .entry)) r (now (c .entry)) ⌝ }
 {
     let mut i = 0;
     while i < 9 {
-        t[9 * r + i] = c[i];
+        if i < s {
+            t[9 * r + i] = c[i];
+        }
         i += 1;
     }
 }
@@ -60,6 +63,6 @@ pub fn multiply_rows(
     let b = row(&*t, y);
     let m = product(width, s, &a, &b, random, watch, values, n);
     let c = m.shares;
-    put(t, z, &c);
+    put(t, s, z, &c);
     m.counts
 }

@@ -1,8 +1,9 @@
 // Powers over the listed exponents, the values of polynomials, and the form of a record.
 ghost use mathlib.Core.Path.{_≡_};
-ghost use Prim.Native.Nat.{ℕ, _+_, _-_, _≤_};
+ghost use Prim.Native.Nat.{ℕ, _+_, _-_, _^_, _<_, _≤_};
 ghost use lib.ListN.{length};
 ghost use Rattle.field.specs.Mul.{Width};
+ghost use Rattle.field.specs.Power.{pow};
 ghost use Rattle.field.specs.Polynomial.{exponents};
 ghost use Rattle.linear.specs.Scalars.{scalars};
 ghost use Rattle.linear.specs.Row.{Agree, dot};
@@ -12,16 +13,33 @@ ghost use Rattle.decomposition.specs.Form.{monomial};
 ghost use Rattle.decomposition.specs.Check.{recordForm, recordProducts};
 use crate::Layout;
 
+// x to the power `next`, where `power` is x to the power e: its square, if `next` follows e.
+fn next_power(width: u32, x: u8, e: u8, power: u8, next: u8) -> u8
+    requires { ⌜ Width width ⌝ }
+    requires { ⌜ (x < 2 ^ width) × (power ≡ pow width x e) ⌝ }
+    ensures { λ r. ⌜ r ≡ pow width x next ⌝ }
+{
+    if field::follows(width, e, next) {
+        field::square(width, power)
+    } else {
+        field::pow(width, x, next)
+    }
+}
+
 // Writes the powers of x from a on, one for each of the first exponents.
 pub fn power_row(width: u32, count: usize, out: &mut [u8], a: usize, x: u8)
     requires { ⌜ Width width ⌝ }
-    requires { ⌜ (count ≤ length (exponents width)) × (a + count ≤ length (now out)) ⌝ }
+    requires { ⌜ (x < 2 ^ width) × (count ≤ length (exponents width)) × (a + count ≤ length (now out)) ⌝ }
     ensures { λ _. ⌜ Filled (now (out .entry)) (now (out .exit)) a count (monomial width x) ⌝ }
 {
+    let mut e: u8 = 0;
+    let mut power: u8 = 1;
     let mut j = 0;
     while j < count {
-        let e = field::exponent(width, j);
-        out[a + j] = field::pow(width, x, e);
+        let next = field::exponent(width, j);
+        power = next_power(width, x, e, power, next);
+        out[a + j] = power;
+        e = next;
         j += 1;
     }
 }
@@ -75,7 +93,7 @@ fn products(layout: Layout, bytes: &[u8], powers: &[u8]) -> u8
 // The form of a record at an input.
 pub fn form_at(layout: Layout, bytes: &[u8], x: u8) -> u8
     requires { ⌜ Sizes layout ⌝ }
-    requires { ⌜ length (now bytes) ≡ layout .size ⌝ }
+    requires { ⌜ (length (now bytes) ≡ layout .size) × (x < layout .inputs) ⌝ }
     ensures { λ r. ⌜ r ≡ recordForm layout (now (bytes .entry)) x ⌝ }
 {
     let width = layout.width;

@@ -15,7 +15,7 @@ use Rattle.xor.proofs.Xor.{⊕-zero, ⊕-exchange, ⊕-lt}
 use Rattle.xor.proofs.Sum.{small-head, small-tail}
 use Rattle.field.specs.Mul.{Width, mul, Ring}
 use Rattle.field.specs.Power.{pow, square, Field}
-use Rattle.field.specs.Polynomial.{classes, class, exponents, combination}
+use Rattle.field.specs.Polynomial.{classes, class, exponents, follows, combination}
 use Rattle.field.proofs.Bilinear.{mul-⊕}
 use Rattle.field.proofs.Ring.{mul-small}
 use Rattle.field.proofs.Power.{pow-twice}
@@ -32,11 +32,8 @@ length-exponents-6 = refl
 
 -- ---- squares go up a class
 
--- e′ is twice e or, where that is 2 ^ n or more, twice e less 2 ^ n - 1
-abbrev pub follows : ℕ → ℕ → ℕ → Bool
-follows n e e′ = eqb (2 * e) e′ || (ltb 0 e′ && eqb (2 * e) (e′ + (2 ^ n - 1)))
-
 pub follows-square : {n : ℕ} → Field n → (x e e′ : ℕ) → x < 2 ^ n → T (follows n e e′) → pow n x e′ ≡ square n (pow n x e)
+unfolding follows
 follows-square {n} field x e e′ h t =
     sym (go (eqb (2 * e) e′) (ltb 0 e′ && eqb (2 * e) (e′ + (2 ^ n - 1))) (eqb→eq (2 * e) e′) wrapped t) ∙ pow-twice (field .ring) x e h
   where
@@ -50,6 +47,10 @@ follows-square {n} field x e e′ h t =
     go true b p q s = ap (pow n x) (p tt)
     go false true p q s = ap (pow n x) (q tt .1) ∙ pow-wrap field x e′ h (q tt .0)
     go false false p q s = absurd s
+
+pub follows-power : {n : ℕ} → Width n → (x e e′ : ℕ) → x < 2 ^ n → follows n e e′ ≡ true → pow n x e′ ≡ square n (pow n x e)
+follows-power {n} (inl w) x e e′ h t = follows-square (rw w field-4) x e e′ h (rw t tt)
+follows-power {n} (inr w) x e e′ h t = follows-square (rw w field-6) x e e′ h (rw t tt)
 
 -- the test of a width's classes, of which there are at most four
 abbrev pub classesFollow : ℕ → Bool
@@ -70,7 +71,7 @@ squares-by {n} field few t c i x h l = elim (decLt c 4) [
 -- within a class each next power is the square of the one before
 pub class-squares : (n : ℕ) → Width n → (c i x : ℕ) → x < 2 ^ n → suc i < length (class n c)
     → pow n x (getD (class n c) (suc i) 0) ≡ square n (pow n x (getD (class n c) i 0))
-unfolding classes
+unfolding classes follows
 class-squares n (inl e) = rw e (squares-by field-4 (lit≤ tt) tt)
 class-squares n (inr e) = rw e (squares-by field-6 (lit≤ tt) tt)
 

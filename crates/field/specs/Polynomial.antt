@@ -1,8 +1,8 @@
 -- The listed exponents, and polynomials with one coefficient for each.
-use mathlib.Core.Bool.{cond}
+use mathlib.Core.Bool.{Bool, cond, _&&_, _||_}
 use mathlib.Core.List.{List, [], _∷_, map, flatten}
-use Prim.Native.Nat.{ℕ}
-use lib.Dec.{eqb}
+use Prim.Native.Nat.{ℕ, _+_, _-_, _*_, _^_}
+use lib.Dec.{eqb, ltb}
 use lib.ListN.{getD}
 use Rattle.xor.specs.Xor.{_⊕_}
 use Rattle.field.specs.Mul.{mul}
@@ -22,6 +22,10 @@ class n c = getD (classes n) c []
 -- the exponents in order
 unfoldable pub exponents : ℕ → List ℕ
 exponents n = flatten (classes n)
+
+-- e′ follows e in a class: it is twice e or, where that is 2 ^ n or more, twice e less 2 ^ n - 1
+unfoldable pub follows : ℕ → ℕ → ℕ → Bool
+follows n e e′ = eqb (2 * e) e′ || (ltb 0 e′ && eqb (2 * e) (e′ + (2 ^ n - 1)))
 
 -- the sum of the elements xs, each times its coefficient
 unfoldable pub combination : ℕ → List ℕ → List ℕ → ℕ

@@ -5,6 +5,7 @@ ghost use lib.ListN.{length, getD};
 ghost use Rattle.field.specs.Mul as spec;
 ghost use Rattle.field.specs.Mul.{Width};
 ghost use Rattle.field.specs.Power as power;
+ghost use Rattle.field.specs.Polynomial as polynomial;
 ghost use Rattle.field.specs.Polynomial.{exponents};
 
 // The exponents of polynomials of width 4 and of width 6: 0, then the classes of 1, 3 and, at width 6, 11.
@@ -43,6 +44,24 @@ pub fn exponent(width: u32, i: usize) -> u8
     } else {
         EXPONENTS_6[i]
     }
+}
+
+// Whether an exponent follows another in a class: so its power is the square of the other's.
+pub fn follows(width: u32, e: u8, next: u8) -> bool
+    requires { ⌜ Width width ⌝ }
+    ensures { λ r. ⌜ r ≡ polynomial.follows width e next ⌝ }
+{
+    let twice = 2 * (e as u32);
+    if twice == next as u32 {
+        return true;
+    }
+    if next == 0 {
+        return false;
+    }
+    if width == 4 {
+        return twice == next as u32 + 15;
+    }
+    twice == next as u32 + 63
 }
 
 // y times a, for every byte a: the bits below the top one move up, and the top one is reduced.

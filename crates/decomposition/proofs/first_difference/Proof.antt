@@ -30,7 +30,7 @@ cast-form-at c =
 form-at-requires : tie.Need-form-at-requires Inv-loop μ-loop
 form-at-requires c κs =
     let s = c .before .before .before .before in
-    (s .pre .0, s .pre .1 .0)
+    (s .pre .0, (s .pre .1 .0, omega (arith, c .before .loop .inv .0, c .if1 .left, s .pre .1 .1)))
 
 shared-slice-read-if2 : tie.Need-shared-slice-read-if2 Inv-loop μ-loop
 shared-slice-read-if2 c = omega (arith, c .before .before .before .loop .inv .0, c .before .before .if1 .left)

@@ -56,7 +56,7 @@ power-row-requires : tie.Need-power-row-requires Inv-loop μ-loop
 power-row-requires c κs =
     let s = c .before .before .before .before in
     let z = s .pre .0 in
-    (z .width, (omega (arith, z .listed), omega (arith, room (c .before), z .work, s .pre .1, c .before .before .loop .inv .1)))
+    (z .width, (omega (arith, z .inputs), omega (arith, z .listed), omega (arith, room (c .before), z .work, s .pre .1, c .before .before .loop .inv .1)))
 
 add-x : tie.Need-add-x Inv-loop μ-loop
 add-x c = omega arith

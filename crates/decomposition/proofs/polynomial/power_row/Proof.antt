@@ -1,9 +1,10 @@
--- `decomposition::polynomial::power_row` meets its contract. The invariant: the first j powers are written.
-use mathlib.Core.Path.{_≡_, _∙_, ap, refl}
+-- `decomposition::polynomial::power_row` meets its contract. The invariant: the first j powers are written, and `power` is that of the exponent e.
+use mathlib.Core.Path.{_≡_, _∙_, ap, refl, sym}
 use Prim.Native.Nat.{_+_, _-_, _≤_}
 use native.Mathlib.Omega.{arith}
 use lib.ListN.{length, length-set}
 use Rattle.field.specs.Power.{pow}
+use Rattle.field.proofs.Power.{pow-zero}
 use Rattle.linear.specs.Buffer.{Filled}
 use Rattle.linear.proofs.Buffer.{filled-more, filled-none}
 use Rattle.decomposition.specs.Form.{monomial}
@@ -11,21 +12,24 @@ use Rattle.decomposition.proofs.polynomial.power_row.Statement.{stateme
 use Rattle.decomposition.proofs.polynomial.power_row.Tie as tie
 
 abbrev Inv-loop : tie.InvT-loop
-Inv-loop width count out₀ a x j₀ out j = (j ≤ count) × (length out ≡ length out₀) × Filled out₀ out a j (monomial width x)
+Inv-loop width count out₀ a x e₀ power₀ j₀ out e power j =
+    (j ≤ count) × (length out ≡ length out₀) × Filled out₀ out a j (monomial width x) × (power ≡ pow width x e)
 
 abbrev μ-loop : tie.MeasureT-loop
-μ-loop width count out₀ a x j₀ out j = count - j
+μ-loop width count out₀ a x e₀ power₀ j₀ out e power j = count - j
 
 loop-holds : tie.Need-loop-holds Inv-loop μ-loop
-loop-holds c = (omega arith, refl, filled-none (c .before .args .out .now) (c .before .args .a) _)
+loop-holds c = (omega arith, refl, filled-none (c .before .args .out .now) (c .before .args .a) _, sym (pow-zero _ _))
 
 exponent-requires : tie.Need-exponent-requires Inv-loop μ-loop
 exponent-requires c κs =
     let s = c .before .before .before in
     (s .pre .0, omega arith)
 
-pow-requires : tie.Need-pow-requires Inv-loop μ-loop
-pow-requires c κs = c .before .before .before .before .pre .0
+next-power-requires : tie.Need-next-power-requires Inv-loop μ-loop
+next-power-requires c κs =
+    let s = c .before .before .before .before in
+    (s .pre .0, (s .pre .1 .0, c .before .before .loop .inv .3))
 
 add-out : tie.Need-add-out Inv-loop μ-loop
 add-out c = omega arith
@@ -47,7 +51,8 @@ loop-again c =
     let j = at-loop .loop .j in (
       omega arith,
       length-set (at-loop .loop .out) (s .args .a + j) _ ∙ at-loop .loop .inv .1,
-      filled-more (at-loop .loop .inv .2) (omega arith) _ (c .pow .ensures ∙ ap (pow (s .args .width) (s .args .x)) (c .before .exponent .ensures)),
+      filled-more (at-loop .loop .inv .2) (omega arith) _ (c .next-power .ensures ∙ ap (pow (s .args .width) (s .args .x)) (c .before .exponent .ensures)),
+      c .next-power .ensures,
     )
 
 same-length : tie.Need-same-length Inv-loop μ-loop
@@ -66,7 +71,7 @@ power-row-spec =
     μ-loop
     loop-holds
     exponent-requires
-    pow-requires
+    next-power-requires
     add-out
     slice-write-out
     add-j

@@ -12,7 +12,7 @@ use Rattle.steps.specs.Sharing.{Sharing}
 use Rattle.steps.proofs.Shape.{shaped-weaken}
 use Rattle.decomposition.specs.Layout.{layout}
 use Rattle.decomposition.specs.Check.{recordForm}
-use Rattle.decomposition.proofs.Reading.{read-accepted}
+use Rattle.decomposition.proofs.ReadOutcome.{read-accepted}
 use Rattle.decomposition.proofs.Theorems.{check-computes}
 use Rattle.decomposition.proofs.Sizes.{layout-width}
 use Rattle.sbox.specs.Form.{formOf, Accepted}

@@ -29,7 +29,7 @@ use Rattle.steps.proofs.Tape.{elements-enough}
 use Rattle.decomposition.specs.Layout.{layout, sized, termsOf}
 use Rattle.decomposition.specs.Record.{readOutcome, Accepted}
 use Rattle.decomposition.specs.Check.{recordForm, firstDifference, checkOutcome}
-use Rattle.decomposition.proofs.Reading.{read-values, read-accepted}
+use Rattle.decomposition.proofs.ReadOutcome.{read-values, read-accepted}
 use Rattle.sbox.specs.Operations.{widthOf}
 use Rattle.sbox.proofs.Record.{accepted-record}
 use Rattle.sbox.proofs.Runs.{result-sharing, result-places}

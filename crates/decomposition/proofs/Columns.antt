@@ -22,7 +22,7 @@ use Rattle.linear.proofs.Scalars.{laws-of}
 use Rattle.decomposition.specs.Equations.{equation}
 use Rattle.decomposition.specs.Form.{column, factor, form, monomial, total, valueOf}
 use Rattle.decomposition.specs.Layout.{Sizes}
-use Rattle.decomposition.specs.declared.Layout.{Layout}
+use Rattle.decomposition.specs.declared.layouts.Layout.{Layout}
 use Rattle.decomposition.proofs.Value.{value-dot}
 
 -- ---- sums

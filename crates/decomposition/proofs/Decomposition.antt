@@ -21,7 +21,7 @@ use Rattle.linear.proofs.System.{canonical-agree, canonical-unique, free-rows}
 use Rattle.decomposition.specs.Equations.{system}
 use Rattle.decomposition.specs.Form.{Computes, Decomposition, NoDecomposition, column}
 use Rattle.decomposition.specs.Layout.{Sizes}
-use Rattle.decomposition.specs.declared.Layout.{Layout}
+use Rattle.decomposition.specs.declared.layouts.Layout.{Layout}
 use Rattle.decomposition.proofs.Columns.{equation-column, equation-right, equation-small, form-equation}
 
 -- ---- lists of factors

@@ -17,7 +17,7 @@ use Rattle.decomposition.specs.Check.{firstDifference, recordProducts}
 use Rattle.decomposition.specs.Form.{monomial, total, valueOf}
 use Rattle.decomposition.specs.Layout.{Sizes}
 use Rattle.decomposition.specs.Record.{basisOf, solutionOf}
-use Rattle.decomposition.specs.declared.Layout.{Layout}
+use Rattle.decomposition.specs.declared.layouts.Layout.{Layout}
 use Rattle.decomposition.proofs.Columns.{total-same}
 use Rattle.decomposition.proofs.Sizes.{basis-room}
 use Rattle.decomposition.proofs.Value.{value-dot}

@@ -8,7 +8,7 @@ pub mod Work
 pub mod Differences
 pub mod Ready
 pub mod Solved
-pub mod Reading
+pub mod ReadOutcome
 pub mod Settled
 pub mod Accepted
 pub mod Theorems

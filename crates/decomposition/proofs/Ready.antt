@@ -14,7 +14,7 @@ use Rattle.refusal.proofs.Outcome.{passed}
 use Rattle.decomposition.specs.Equations.{FitReady}
 use Rattle.decomposition.specs.Fit.{AfterTests, Found, fitTests, Fits}
 use Rattle.decomposition.specs.Layout.{Sizes, layout, Known}
-use Rattle.decomposition.specs.declared.Layout.{Layout}
+use Rattle.decomposition.specs.declared.layouts.Layout.{Layout}
 
 module _ (L : Layout) (table basis work out : List ℕ) where
   -- what the tests refuse is refused, and nothing is changed

@@ -10,7 +10,7 @@ use Rattle.decomposition.specs.Check.{recordForm}
 use Rattle.decomposition.specs.Form.{form}
 use Rattle.decomposition.specs.Layout.{Sizes}
 use Rattle.decomposition.specs.Record.{headed, basisOf, marked, recordOf, solutionOf}
-use Rattle.decomposition.specs.declared.Layout.{Layout}
+use Rattle.decomposition.specs.declared.layouts.Layout.{Layout}
 
 -- ---- writing
 

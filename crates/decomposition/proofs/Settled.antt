@@ -15,7 +15,7 @@ use Rattle.decomposition.specs.Equations.{FitReady}
 use Rattle.decomposition.specs.Fit.{AfterTests, Found, fitTests, Fits}
 use Rattle.decomposition.specs.Layout.{Sizes, known, layout, Known}
 use Rattle.decomposition.specs.Record.{recordOf}
-use Rattle.decomposition.specs.declared.Layout.{Layout}
+use Rattle.decomposition.specs.declared.layouts.Layout.{Layout}
 use Rattle.decomposition.proofs.Decomposition.{decomposition-unique}
 use Rattle.decomposition.proofs.Ready.{fit-ready}
 use Rattle.decomposition.proofs.Sizes.{sizes}

@@ -14,7 +14,7 @@ use Rattle.field.proofs.Polynomial.{length-exponents-4, length-exponents-6}
 use Rattle.field.proofs.Turns.{width-le}
 use Rattle.linear.proofs.Buffer.{row-room}
 use Rattle.decomposition.specs.Layout.{termsOf, sized, layout, Sizes, Known}
-use Rattle.decomposition.specs.declared.Layout.{Layout}
+use Rattle.decomposition.specs.declared.layouts.Layout.{Layout}
 
 -- ---- the widths
 

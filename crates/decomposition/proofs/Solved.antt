@@ -15,7 +15,7 @@ use Rattle.linear.proofs.System.{canonical-rows, inconsistent-rows}
 use Rattle.decomposition.specs.Equations.{Rows, system}
 use Rattle.decomposition.specs.Form.{Decomposition, NoDecomposition}
 use Rattle.decomposition.specs.Layout.{Sizes}
-use Rattle.decomposition.specs.declared.Layout.{Layout}
+use Rattle.decomposition.specs.declared.layouts.Layout.{Layout}
 use Rattle.decomposition.proofs.Decomposition.{canonical-decomposition, inconsistent-none}
 
 module _ {L : Layout} (z : Sizes L) (table basis : List ℕ) (sb : SmallList (L .width) basis) (w o p : List ℕ)

@@ -8,7 +8,7 @@ use borrow.Author.Tests.{eq-eqb}
 use Rattle.refusal.specs.Large.{testBelow}
 use Rattle.refusal.specs.Outcome.{done}
 use Rattle.decomposition.specs.Fit.{fitTests}
-use Rattle.decomposition.specs.declared.Layout.{Layout}
+use Rattle.decomposition.specs.declared.layouts.Layout.{Layout}
 
 -- all from place k on
 pub whole-part : (k : ℕ) (l : List ℕ) → take (length l - k) (drop k l) ≡ drop k l

@@ -17,7 +17,7 @@ use Rattle.decomposition.specs.Layout.{known, layout, sized, termsOf, Kn
 use Rattle.decomposition.specs.Record.{basisOf, readOutcome, recordOf, solutionOf}
 use Rattle.decomposition.proofs.Accepted.{written-check, written-read}
 use Rattle.decomposition.proofs.Decomposition.{decomposition-exists, decomposition-unique, zero-decomposition}
-use Rattle.decomposition.proofs.Reading.{read-values, accepted-computes}
+use Rattle.decomposition.proofs.ReadOutcome.{read-values, accepted-computes}
 use Rattle.decomposition.proofs.Ready.{fit-ready, fits-as}
 use Rattle.decomposition.proofs.Settled.{Passed, fit-cases, fit-settled}
 use Rattle.decomposition.proofs.Sizes.{layout-width, sizes}

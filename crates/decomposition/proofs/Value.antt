@@ -16,7 +16,7 @@ use Rattle.linear.proofs.Row.{dot-agree, dot-cons, dot-none}
 use Rattle.linear.proofs.Scalars.{scalar-laws}
 use Rattle.decomposition.specs.Form.{monomial, polynomial, valueOf}
 use Rattle.decomposition.specs.Layout.{Sizes}
-use Rattle.decomposition.specs.declared.Layout.{Layout}
+use Rattle.decomposition.specs.declared.layouts.Layout.{Layout}
 
 length-map : (f : ℕ → ℕ) (l : List ℕ) → length (map f l) ≡ length l
 length-map f [] = refl

@@ -17,7 +17,7 @@ use Rattle.linear.proofs.Buffer.{filled-other, filled-row, row-room}
 use Rattle.decomposition.specs.Equations.{Powers, Rows, system}
 use Rattle.decomposition.specs.Form.{monomial}
 use Rattle.decomposition.specs.Layout.{Sizes}
-use Rattle.decomposition.specs.declared.Layout.{Layout}
+use Rattle.decomposition.specs.declared.layouts.Layout.{Layout}
 use Rattle.decomposition.proofs.Columns.{equation-small}
 
 -- ---- the powers

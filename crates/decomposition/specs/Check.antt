@@ -10,9 +10,9 @@ use Rattle.decomposition.specs.Form.{form, total, valueOf}
 use Rattle.decomposition.specs.Layout.{layout}
 use Rattle.decomposition.specs.Record.{basisOf, solutionOf, readOutcome}
 use Rattle.refusal.specs.Large.{testBelow}
-use Rattle.decomposition.specs.declared.CheckAnswer.{CheckAnswer}
-use Rattle.decomposition.specs.declared.CheckAnswer.the-variants.{Done, Refused}
-use Rattle.decomposition.specs.declared.Layout.{Layout}
+use Rattle.decomposition.specs.declared.checking.CheckAnswer.{CheckAnswer}
+use Rattle.decomposition.specs.declared.checking.CheckAnswer.the-variants.{Done, Refused}
+use Rattle.decomposition.specs.declared.layouts.Layout.{Layout}
 
 -- the form of a record at x
 abbrev pub recordForm : Layout → List ℕ → ℕ → ℕ
@@ -40,6 +40,6 @@ unfoldable pub checkOutcome : List ℕ → List ℕ → Outcome
 checkOutcome r table = andThen (readOutcome r) (checkAt (layout (getD r 5 0)) r table)
 
 -- the outcome that each case of the answer stands for
-abbrev pub checkReported : CheckAnswer → Outcome
-checkReported Done = done []
-checkReported (Refused number place) = refused number place
+abbrev pub checkReport : CheckAnswer → Outcome
+checkReport Done = done []
+checkReport (Refused number place) = refused number place

@@ -9,7 +9,7 @@ use Rattle.xor.specs.Sum.{Small}
 use Rattle.linear.specs.Buffer.{cell}
 use Rattle.linear.specs.Row.{Agree}
 use Rattle.decomposition.specs.Form.{monomial, column}
-use Rattle.decomposition.specs.declared.Layout.{Layout}
+use Rattle.decomposition.specs.declared.layouts.Layout.{Layout}
 
 -- the equation at input x: the columns, and v as the right side
 unfoldable pub equation : Layout → List ℕ → ℕ → ℕ → ℕ → ℕ

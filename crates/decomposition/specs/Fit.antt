@@ -9,11 +9,11 @@ use Rattle.decomposition.specs.Form.{Decomposition, NoDecomposition}
 use Rattle.decomposition.specs.Layout.{known, layout}
 use Rattle.decomposition.specs.Record.{recordOf}
 use Rattle.refusal.specs.Large.{testBelow}
-use Rattle.decomposition.specs.declared.FitAnswer.{FitAnswer}
-use Rattle.decomposition.specs.declared.FitAnswer.the-variants.{Done, Refused}
-use Rattle.decomposition.specs.declared.HouseFitAnswer.{HouseFitAnswer}
-use Rattle.decomposition.specs.declared.HouseFitAnswer.the-variants.{Done as HouseDone, Refused as HouseRefused}
-use Rattle.decomposition.specs.declared.Layout.{Layout}
+use Rattle.decomposition.specs.declared.fitting.FitAnswer.{FitAnswer}
+use Rattle.decomposition.specs.declared.fitting.FitAnswer.the-variants.{Done, Refused}
+use Rattle.decomposition.specs.declared.fitting.HouseFitAnswer.{HouseFitAnswer}
+use Rattle.decomposition.specs.declared.fitting.HouseFitAnswer.the-variants.{Done as HouseDone, Refused as HouseRefused}
+use Rattle.decomposition.specs.declared.layouts.Layout.{Layout}
 
 -- ---- the tests
 
@@ -69,10 +69,10 @@ abbrev pub HouseFits : List ℕ → List ℕ → List ℕ → List ℕ → List 
 HouseFits table work out work' out' r = Fits 4 table houseBasis work out work' out' r
 
 -- the outcomes that the cases of the answers stand for
-abbrev pub fitReported : FitAnswer → Outcome
-fitReported Done = done []
-fitReported (Refused number place) = refused number place
+abbrev pub fitReport : FitAnswer → Outcome
+fitReport Done = done []
+fitReport (Refused number place) = refused number place
 
-abbrev pub houseFitReported : HouseFitAnswer → Outcome
-houseFitReported HouseDone = done []
-houseFitReported (HouseRefused number place) = refused number place
+abbrev pub houseFitReport : HouseFitAnswer → Outcome
+houseFitReport HouseDone = done []
+houseFitReport (HouseRefused number place) = refused number place

@@ -12,7 +12,7 @@ use Rattle.field.specs.Polynomial.{exponents, value}
 use Rattle.field.specs.Power.{pow}
 use Rattle.linear.specs.Scalars.{scalars}
 use Rattle.linear.specs.System.{Free}
-use Rattle.decomposition.specs.declared.Layout.{Layout}
+use Rattle.decomposition.specs.declared.layouts.Layout.{Layout}
 
 -- ---- the form
 

@@ -6,7 +6,7 @@ use lib.Dec.{eqb}
 use lib.ListN.{length}
 use Rattle.field.specs.Mul.{Width}
 use Rattle.field.specs.Polynomial.{exponents}
-use Rattle.decomposition.specs.declared.Layout.{Layout}
+use Rattle.decomposition.specs.declared.layouts.Layout.{Layout}
 
 -- the widths for which there are decompositions
 abbrev pub known : ℕ → Bool

@@ -9,9 +9,9 @@ use Rattle.xor.specs.Sum.{Small}
 use Rattle.refusal.specs.Large.{testBelow}
 use Rattle.refusal.specs.Outcome.{Outcome, done, refused, test}
 use Rattle.decomposition.specs.Layout.{known, layout, Known}
-use Rattle.decomposition.specs.declared.Layout.{Layout}
-use Rattle.decomposition.specs.declared.ReadAnswer.{ReadAnswer}
-use Rattle.decomposition.specs.declared.ReadAnswer.the-variants.{Done, Refused}
+use Rattle.decomposition.specs.declared.layouts.Layout.{Layout}
+use Rattle.decomposition.specs.declared.reading.ReadAnswer.{ReadAnswer}
+use Rattle.decomposition.specs.declared.reading.ReadAnswer.the-variants.{Done, Refused}
 
 -- ---- the record
 
@@ -48,9 +48,9 @@ readOutcome r =
     (readAt (layout (getD r 5 0)) r)))
 
 -- the outcome that each case of the answer stands for
-abbrev pub readReported : ReadAnswer → Outcome
-readReported (Done width) = done (width ∷ [])
-readReported (Refused number place) = refused number place
+abbrev pub readReport : ReadAnswer → Outcome
+readReport (Done width) = done (width ∷ [])
+readReport (Refused number place) = refused number place
 
 -- a record that Read accepts, of width n
 pub record Accepted (n : ℕ) (r : List ℕ) : Type 0 where

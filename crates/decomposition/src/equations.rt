@@ -9,7 +9,7 @@ ghost use Rattle.linear.specs.Buffer.{from, Filled};
 ghost use Rattle.decomposition.specs.Layout.{Sizes};
 ghost use Rattle.decomposition.specs.Form.{monomial, factor};
 ghost use Rattle.decomposition.specs.Equations.{equation, Powers, Rows, EquationReady, EquationsReady};
-use crate::Layout;
+use crate::layouts::Layout;
 use crate::polynomial::evaluate;
 use crate::polynomial::power_row;
 

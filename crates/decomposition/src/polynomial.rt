@@ -11,7 +11,7 @@ ghost use Rattle.linear.specs.Buffer.{from, Filled};
 ghost use Rattle.decomposition.specs.Layout.{Sizes};
 ghost use Rattle.decomposition.specs.Form.{monomial};
 ghost use Rattle.decomposition.specs.Check.{recordForm, recordProducts};
-use crate::Layout;
+use crate::layouts::Layout;
 
 // x to the power `next`, where `power` is x to the power e: its square, if `next` follows e.
 fn next_power(width: u32, x: u8, e: u8, power: u8, next: u8) -> u8

@@ -28,7 +28,7 @@ use Rattle.steps.proofs.Machine.{went-watched}
 use Rattle.steps.proofs.Tape.{elements-enough}
 use Rattle.decomposition.specs.Layout.{termsOf, sized, layout}
 use Rattle.decomposition.specs.Record.{readOutcome, Accepted}
-use Rattle.decomposition.proofs.Reading.{read-values}
+use Rattle.decomposition.proofs.ReadOutcome.{read-values}
 use Rattle.decomposition.proofs.Sizes.{known-width}
 use Rattle.sbox.specs.Form.{basisSize}
 use Rattle.sbox.specs.Figures.{sboxProducts, sboxDraws, sboxSteps}

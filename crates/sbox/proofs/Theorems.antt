@@ -13,7 +13,7 @@ use Rattle.steps.specs.Sharing.{Sharing}
 use Rattle.decomposition.specs.Layout.{layout}
 use Rattle.decomposition.specs.Record.{readOutcome}
 use Rattle.decomposition.specs.Check.{recordForm, checkOutcome}
-use Rattle.decomposition.proofs.Reading.{read-accepted}
+use Rattle.decomposition.proofs.ReadOutcome.{read-accepted}
 use Rattle.decomposition.proofs.Sizes.{layout-width}
 use Rattle.decomposition.proofs.Theorems.{check-computes}
 use Rattle.sbox.specs.Sbox.{sbox}

@@ -1,6 +1,6 @@
 -- `checking::record_tests` meets its contract: by what Read answers.
 use mathlib.Core.Path.{sym, ap, _∙_}
-use Rattle.decomposition.specs.Record.{readReported}
+use Rattle.decomposition.specs.Record.{readReport}
 use Rattle.cipher.specs.Operations.{recordTests}
 use borrow.Author.Needs.{needs}
 use Rattle.cipher.proofs.checking.record_tests.Statement.{statement}
@@ -16,12 +16,12 @@ enum-known-answer-2 : tie.Need-enum-known-answer-2
 enum-known-answer-2 c = search needs
 
 table-tests-requires : tie.Need-table-tests-requires
-table-tests-requires c κs = sym (c .before .before .before .read .ensures) ∙ ap readReported (c .before .answer2 .given .1)
+table-tests-requires c κs = sym (c .before .before .before .read .ensures) ∙ ap readReport (c .before .answer2 .given .1)
 
 returns : tie.Need-returns
 unfolding recordTests
 returns c =
-    let e = sym (c .before .before .before .read .ensures) ∙ ap readReported (c .before .answer .given .1) in
+    let e = sym (c .before .before .before .read .ensures) ∙ ap readReport (c .before .answer .given .1) in
     rw e
 
 returns-2 : tie.Need-returns-2

@@ -6,8 +6,8 @@ use Rattle.refusal.specs.Outcome.{done, test}
 use Rattle.refusal.proofs.Outcome.{passed}
 use Rattle.decomposition.specs.Layout.{layout}
 use Rattle.decomposition.specs.Record.{readOutcome}
-use Rattle.decomposition.specs.Check.{recordForm, firstDifference, checkReported}
-use Rattle.decomposition.proofs.Reading.{read-accepted}
+use Rattle.decomposition.specs.Check.{recordForm, firstDifference, checkReport}
+use Rattle.decomposition.proofs.ReadOutcome.{read-accepted}
 use Rattle.sbox.specs.Operations.{widthOf}
 use Rattle.present.specs.Present.{table}
 use Rattle.cipher.specs.Operations.{computesTable, recordTests}
@@ -40,7 +40,7 @@ four c = rw (c .if1 .left) at (c .before .before .pre)
 
 -- what Check says of the table
 checked : (c : tie.After-check) → let r = c .before .before .before .before .args .rec .now in
-    checkReported (c .check .result) ≡ test (computesTable r) 6 (firstDifference (recordForm (layout 4) r) table) (done [])
+    checkReport (c .check .result) ≡ test (computesTable r) 6 (firstDifference (recordForm (layout 4) r) table) (done [])
 unfolding table
 checked c = c .check .ensures ∙ check-tests (c .before .before .before .before .args .rec .now) (four (c .before .before))
 
@@ -48,7 +48,7 @@ returns-2 : tie.Need-returns-2
 unfolding recordTests
 returns-2 c =
     let r = c .before .before .before .before .before .before .args .rec .now in
-    let e = sym (checked (c .before .before)) ∙ ap checkReported (c .enum-told .given .1) in
+    let e = sym (checked (c .before .before)) ∙ ap checkReport (c .enum-told .given .1) in
     let n = read-accepted r 4 (four (c .before .before .before .before)) .named in
     rw (four (c .before .before .before .before), eq-eqb (widthOf r) 4 n, last-fails (computesTable r) 6 _ e)
 
@@ -56,7 +56,7 @@ returns-3 : tie.Need-returns-3
 unfolding recordTests
 returns-3 c =
     let r = c .before .before .before .before .before .before .args .rec .now in
-    let e = sym (checked (c .before .before)) ∙ ap checkReported (c .enum-told2 .given .1) in
+    let e = sym (checked (c .before .before)) ∙ ap checkReport (c .enum-told2 .given .1) in
     let n = read-accepted r 4 (four (c .before .before .before .before)) .named in
     rw (four (c .before .before .before .before), eq-eqb (widthOf r) 4 n, passed (computesTable r) 6 _ (done []) e .0)
 

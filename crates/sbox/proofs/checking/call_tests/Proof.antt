@@ -3,8 +3,8 @@ use mathlib.Core.List.{[], _∷_}
 use mathlib.Core.Path.{_≡_, _∙_, ap, sym}
 use borrow.Author.Needs.{needs}
 use Rattle.refusal.specs.Outcome.{done}
-use Rattle.decomposition.specs.Record.{Accepted, readOutcome, readReported}
-use Rattle.decomposition.proofs.Reading.{read-accepted}
+use Rattle.decomposition.specs.Record.{Accepted, readOutcome, readReport}
+use Rattle.decomposition.proofs.ReadOutcome.{read-accepted}
 use Rattle.decomposition.proofs.Sizes.{known-width}
 use Rattle.sbox.specs.Operations.{callTests}
 use Rattle.sbox.proofs.checking.call_tests.Statement.{statement}
@@ -12,7 +12,7 @@ use Rattle.sbox.proofs.checking.call_tests.Tie as tie
 
 -- where Read accepts the record
 read-done : (c : tie.After-answer2) → readOutcome (c .before .before .before .before .before .before .args .rec .now) ≡ done (c .answer2 .given .0 .0 ∷ [])
-read-done c = sym (c .before .before .read .ensures) ∙ ap readReported (c .answer2 .given .1)
+read-done c = sym (c .before .before .read .ensures) ∙ ap readReport (c .answer2 .given .1)
 
 accepted : (c : tie.After-answer2) → Accepted (c .answer2 .given .0 .0) (c .before .before .before .before .before .before .args .rec .now)
 accepted c = read-accepted (c .before .before .before .before .before .before .args .rec .now) (c .answer2 .given .0 .0) (read-done c)
@@ -32,7 +32,7 @@ argument-tests-requires c κs = known-width _ (accepted (c .before) .width)
 returns : tie.Need-returns
 unfolding callTests
 returns c =
-    let e = sym (c .before .before .before .read .ensures) ∙ ap readReported (c .before .answer .given .1) in
+    let e = sym (c .before .before .before .read .ensures) ∙ ap readReport (c .before .answer .given .1) in
     rw e
 
 returns-2 : tie.Need-returns-2

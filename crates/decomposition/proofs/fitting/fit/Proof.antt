@@ -1,0 +1,56 @@
+-- `decomposition::fit` meets its contract. By the width.
+use mathlib.Core.Bool.{false}
+use mathlib.Core.Path.{_≡_, refl}
+use borrow.Author.Needs.{needs}
+use Rattle.refusal.proofs.Outcome.{test-fails, test-passes}
+use Rattle.decomposition.specs.Layout.{known, Known}
+use Rattle.decomposition.proofs.Ready.{fits-at}
+use Rattle.decomposition.proofs.Sizes.{sizes}
+use Rattle.decomposition.proofs.fitting.fit.Statement.{statement}
+use Rattle.decomposition.proofs.fitting.fit.Tie as tie
+
+-- the width is known
+width-right : (c : tie.Else1) → Known (c .before .before .before .before .before .before .args .width)
+width-right c = test-passes (c .before .known .ensures) (c .if1 .left)
+
+known-requires : tie.Need-known-requires
+known-requires c κs = search needs
+
+returns : tie.Need-returns
+returns c =
+    let s = c .before .before .before .before .before .before in
+    let k : known (s .args .width) ≡ false = test-fails (c .before .known .ensures) (c .if1 .taken) in
+    rw k (refl, refl, refl)
+
+layout-of-requires : tie.Need-layout-of-requires
+layout-of-requires c κs = width-right c
+
+fit-at-requires : tie.Need-fit-at-requires
+fit-at-requires c κs =
+    rw (c .before .before .layout-of .ensures) (sizes (c .before .before .before .before .before .before .before .before .before .args .width)
+    (width-right (c .before .before .before)))
+
+same-length : tie.Need-same-length
+same-length c = search needs
+
+same-length-2 : tie.Need-same-length-2
+same-length-2 c = search needs
+
+returns-2 : tie.Need-returns-2
+returns-2 c =
+    let f = c .before .before .before .before in
+    let s = f .before .before .before .before .before .before .before .before .before .before in
+    fits-at (f .before .before .before .layout-of .result) (s .args .table .now) (s .args .basis .now) (s .args .work .now) (s .args .out .now)
+    (s .args .width) (width-right (f .before .before .before .before)) (f .before .before .before .layout-of .ensures) _ _ _ (f .fit-at .ensures)
+
+pub fit-spec : {M : Type 1} → statement M
+fit-spec =
+    tie.close
+    (tie.spec
+    known-requires
+    returns
+    layout-of-requires
+    fit-at-requires
+    same-length
+    same-length-2
+    returns-2)

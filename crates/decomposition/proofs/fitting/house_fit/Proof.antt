@@ -1,0 +1,69 @@
+-- `decomposition::house_fit` meets its contract: a fit over the constant, which is the house basis.
+use mathlib.Core.Path.{refl, ap}
+use borrow.Author.Needs.{needs}
+use Rattle.decomposition.specs.Fit.{fitReport, houseBasis}
+use Rattle.decomposition.proofs.Ready.{fits-as, fits-at}
+use Rattle.decomposition.proofs.Sizes.{sizes}
+use Rattle.decomposition.proofs.fitting.house_fit.Statement.{statement}
+use Rattle.decomposition.proofs.fitting.house_fit.Tie as tie
+
+layout-of-requires : tie.Need-layout-of-requires
+layout-of-requires c κs = refl
+
+slice-aggregate-fit-at : tie.Need-slice-aggregate-fit-at
+slice-aggregate-fit-at c = search needs
+
+fit-at-requires : tie.Need-fit-at-requires
+fit-at-requires c κs = rw (c .before .before .before .layout-of .ensures) (sizes 4 refl)
+
+enum-known-answer : tie.Need-enum-known-answer
+enum-known-answer c = search needs
+
+enum-told : tie.Need-enum-told
+enum-told c = search needs
+
+same-length : tie.Need-same-length
+same-length c = search needs
+
+same-length-2 : tie.Need-same-length-2
+same-length-2 c = search needs
+
+returns : tie.Need-returns
+unfolding houseBasis
+returns c =
+    let s = c .before .before .before .before .before .before .before .before .before .before .before .before .before .before .before in
+    let f = c .before .before .before .before .before .before .before in
+    fits-as 4 (s .args .table .now) houseBasis (s .args .work .now) (s .args .out .now) _ _ (ap fitReport (c .before .answer .given .1))
+    (fits-at (f .before .before .before .before .layout-of .result) (s .args .table .now) houseBasis (s .args .work .now) (s .args .out .now)
+    4 refl (f .before .before .before .before .layout-of .ensures) _ _ _ (f .fit-at .ensures))
+
+same-length-3 : tie.Need-same-length-3
+same-length-3 c = search needs
+
+same-length-4 : tie.Need-same-length-4
+same-length-4 c = search needs
+
+returns-2 : tie.Need-returns-2
+unfolding houseBasis
+returns-2 c =
+    let s = c .before .before .before .before .before .before .before .before .before .before .before .before .before .before in
+    let f = c .before .before .before .before .before .before in
+    fits-as 4 (s .args .table .now) houseBasis (s .args .work .now) (s .args .out .now) _ _ (ap fitReport (c .enum-told .given .1))
+    (fits-at (f .before .before .before .before .layout-of .result) (s .args .table .now) houseBasis (s .args .work .now) (s .args .out .now)
+    4 refl (f .before .before .before .before .layout-of .ensures) _ _ _ (f .fit-at .ensures))
+
+pub house-fit-spec : {M : Type 1} → statement M
+house-fit-spec =
+    tie.close
+    (tie.spec
+    layout-of-requires
+    slice-aggregate-fit-at
+    fit-at-requires
+    enum-known-answer
+    enum-told
+    same-length
+    same-length-2
+    returns
+    same-length-3
+    same-length-4
+    returns-2)

@@ -1,0 +1,75 @@
+// The operation Check.
+ghost use mathlib.Core.Path.{_≡_};
+ghost use lib.ListN.{length};
+ghost use Rattle.decomposition.specs.Layout.{Sizes};
+ghost use Rattle.decomposition.specs.Check.{recordForm, firstDifference, checkAt, checkReport, checkOutcome};
+use crate::layouts::Layout;
+use crate::layouts::layout_of;
+use crate::polynomial::form_at;
+use crate::reading::ReadAnswer;
+use crate::reading::read;
+use refusal::first_large;
+
+pub enum CheckAnswer {
+    Done,
+    Refused { number: u8, place: usize },
+}
+
+// The first input at which the form of the record and the table differ, or the table's length if there is none.
+fn first_difference(layout: Layout, bytes: &[u8], table: &[u8]) -> usize
+    requires { ⌜ Sizes layout ⌝ }
+    requires { ⌜ (length (now bytes) ≡ layout .size) × (length (now table) ≡ layout .inputs) ⌝ }
+    ensures { λ r. ⌜ r ≡ firstDifference (recordForm layout (now (bytes .entry))) (now (table .entry)) ⌝ }
+{
+    let mut x = 0;
+    let first = loop {
+        if x == table.len() {
+            break x;
+        }
+        if form_at(layout, bytes, x as u8) != table[x] {
+            break x;
+        }
+        x += 1;
+    };
+    first
+}
+
+// Check's tests of the table.
+fn check_at(layout: Layout, bytes: &[u8], table: &[u8]) -> CheckAnswer
+    requires { ⌜ Sizes layout ⌝ }
+    requires { ⌜ length (now bytes) ≡ layout .size ⌝ }
+    ensures { λ r. ⌜ checkReport r ≡ checkAt layout (now (bytes .entry)) (now (table .entry)) ⌝ }
+{
+    if table.len() != layout.inputs {
+        return CheckAnswer::Refused {
+            number: 2,
+            place: 0,
+        };
+    }
+    let large = first_large(layout.inputs as u8, table);
+    if large < table.len() {
+        return CheckAnswer::Refused {
+            number: 3,
+            place: large,
+        };
+    }
+    let first = first_difference(layout, bytes, table);
+    if first < table.len() {
+        return CheckAnswer::Refused {
+            number: 6,
+            place: first,
+        };
+    }
+    CheckAnswer::Done
+}
+
+// Check: the form of the record computes the table.
+pub fn check(bytes: &[u8], table: &[u8]) -> CheckAnswer
+    ensures { λ r. ⌜ checkReport r ≡ checkOutcome (now (bytes .entry)) (now (table .entry)) ⌝ }
+{
+    let answer = read(bytes);
+    match answer {
+        ReadAnswer::Refused { number, place } => CheckAnswer::Refused { number, place },
+        ReadAnswer::Done { width } => check_at(layout_of(width), bytes, table),
+    }
+}

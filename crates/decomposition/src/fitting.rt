@@ -1,0 +1,153 @@
+// The operations Fit and House fit.
+ghost use mathlib.Core.Path.{_≡_};
+ghost use Prim.Native.Nat.{_+_, _≤_};
+ghost use lib.ListN.{length, drop, replicate};
+ghost use Rattle.decomposition.specs.Layout.{Sizes};
+ghost use Rattle.decomposition.specs.Record.{headed};
+ghost use Rattle.decomposition.specs.Equations.{FitReady};
+ghost use Rattle.decomposition.specs.Fit.{Found, AfterTests, Fits, fitTests, HouseFits, fitReport, houseFitReport};
+use crate::equations::equations;
+use crate::equations::powers;
+use crate::layouts::Layout;
+use crate::layouts::known;
+use crate::layouts::layout_of;
+use refusal::first_large;
+
+pub enum FitAnswer {
+    Done,
+    Refused { number: u8, place: usize },
+}
+
+pub enum HouseFitAnswer {
+    Done,
+    Refused { number: u8, place: usize },
+}
+
+// The house basis of width 4: q1 = x + x² + x^12.
+const HOUSE_BASIS: [u8; 9] = [0, 1, 1, 0, 0, 0, 0, 1, 0];
+
+// Writes the mark, the version, the width and the basis.
+fn write_head(width: u32, basis: &[u8], out: &mut [u8])
+    requires { ⌜ (width ≤ 8) × (6 + length (now basis) ≤ length (now out)) ⌝ }
+    ensures { λ _. ⌜ now (out .exit) ≡ headed width (now (basis .entry)) (drop (6 + length (now (basis .entry))) (now (out .entry))) ⌝ }
+{
+    out[0] = b'D';
+    out[1] = b'C';
+    out[2] = b'P';
+    out[3] = 0;
+    out[4] = 1;
+    out[5] = width as u8;
+    let mut i = 0;
+    while i < basis.len() {
+        out[6 + i] = basis[i];
+        i += 1;
+    }
+}
+
+// Finds the decomposition, where all tests are passed.
+fn find(layout: Layout, table: &[u8], basis: &[u8], work: &mut [u8], out: &mut [u8]) -> FitAnswer
+    requires { ⌜ Sizes layout ⌝ }
+    requires { ⌜ FitReady layout (now table) (now basis) (now work) (now out) ⌝ }
+    ensures { λ r. ⌜ now (work .exit) ≡ replicate (length (now (work .entry))) 0 ⌝ }
+    ensures { λ r. ⌜ Found layout (now (table .entry)) (now (basis .entry)) (now (out .entry)) (now (out .exit)) (fitReport r) ⌝ }
+{
+    let width = layout.width;
+    let start = layout.start;
+    powers(layout, work);
+    equations(layout, table, basis, work);
+    let solved = linear::solve(
+        width,
+        work,
+        layout.unknowns,
+        layout.inputs,
+        &mut out[start..],
+    );
+    linear::zero(work);
+    if solved {
+        write_head(width, basis, out);
+        return FitAnswer::Done;
+    }
+    FitAnswer::Refused {
+        number: 4,
+        place: 0,
+    }
+}
+
+// Fit's tests once the width is known: Done where all are passed. Work and out are the lengths of the work and the record.
+fn fit_tests(layout: Layout, table: &[u8], basis: &[u8], work: usize, out: usize) -> FitAnswer
+    requires { ⌜ Sizes layout ⌝ }
+    ensures { λ r. ⌜ fitReport r ≡ fitTests layout (now (table .entry)) (now (basis .entry)) work out ⌝ }
+{
+    let wrong_length = FitAnswer::Refused {
+        number: 2,
+        place: 0,
+    };
+    if table.len() != layout.inputs {
+        return wrong_length;
+    }
+    if basis.len() != layout.basis {
+        return wrong_length;
+    }
+    if work != layout.work {
+        return wrong_length;
+    }
+    if out != layout.size {
+        return wrong_length;
+    }
+    let i = first_large(layout.inputs as u8, table);
+    if i < table.len() {
+        return FitAnswer::Refused {
+            number: 3,
+            place: i,
+        };
+    }
+    let j = first_large(layout.inputs as u8, basis);
+    if j < basis.len() {
+        return FitAnswer::Refused {
+            number: 3,
+            place: i + j,
+        };
+    }
+    FitAnswer::Done
+}
+
+// Fit once the width is known.
+fn fit_at(layout: Layout, table: &[u8], basis: &[u8], work: &mut [u8], out: &mut [u8]) -> FitAnswer
+    requires { ⌜ Sizes layout ⌝ }
+    ensures { λ r. ⌜ AfterTests layout (now (table .entry)) (now (basis .entry)) (now (work .entry)) (now (out .entry))
+        (now (work .exit)) (now (out .exit)) (fitReport r)
+        (fitTests layout (now (table .entry)) (now (basis .entry)) (length (now (work .entry))) (length (now (out .entry)))) ⌝ }
+{
+    let tested = fit_tests(layout, table, basis, work.len(), out.len());
+    match tested {
+        FitAnswer::Refused { number, place } => FitAnswer::Refused { number, place },
+        FitAnswer::Done => find(layout, table, basis, work, out),
+    }
+}
+
+// Fit: writes the record of THE decomposition of a table over a basis.
+pub fn fit(width: u32, table: &[u8], basis: &[u8], work: &mut [u8], out: &mut [u8]) -> FitAnswer
+    ensures { λ r. ⌜ Fits width (now (table .entry)) (now (basis .entry)) (now (work .entry)) (now (out .entry)) (now (work .exit)) (now (out .exit))
+        (fitReport r) ⌝ }
+{
+    if !known(width) {
+        return FitAnswer::Refused {
+            number: 1,
+            place: 0,
+        };
+    }
+    fit_at(layout_of(width), table, basis, work, out)
+}
+
+// House fit: a fit of width 4 over the house basis.
+pub fn house_fit(table: &[u8], work: &mut [u8], out: &mut [u8]) -> HouseFitAnswer
+    ensures { λ r. ⌜ HouseFits (now (table .entry)) (now (work .entry)) (now (out .entry)) (now (work .exit)) (now (out .exit))
+        (houseFitReport r) ⌝ }
+{
+    let basis = HOUSE_BASIS;
+    let answer = fit_at(layout_of(4), table, &basis, work, out);
+    match answer {
+        FitAnswer::Refused { number, place } => HouseFitAnswer::Refused { number, place },
+        FitAnswer::Done => HouseFitAnswer::Done,
+    }
+}

@@ -1,0 +1,86 @@
+// The operation Read.
+ghost use mathlib.Core.Path.{_≡_};
+ghost use Prim.Native.Nat.{_≤_};
+ghost use lib.ListN.{length};
+ghost use Rattle.decomposition.specs.Layout.{Sizes};
+ghost use Rattle.decomposition.specs.Record as spec;
+ghost use Rattle.decomposition.specs.Record.{readAt, readReport, readOutcome};
+use crate::layouts::Layout;
+use crate::layouts::known;
+use crate::layouts::layout_of;
+use refusal::first_large;
+
+pub enum ReadAnswer {
+    Done { width: u32 },
+    Refused { number: u8, place: usize },
+}
+
+// Whether the record begins with the letters `DCP` and the version.
+fn marked(bytes: &[u8]) -> bool
+    requires { ⌜ 6 ≤ length (now bytes) ⌝ }
+    ensures { λ r. ⌜ r ≡ spec.marked (now (bytes .entry)) ⌝ }
+{
+    if bytes[0] != b'D' {
+        return false;
+    }
+    if bytes[1] != b'C' {
+        return false;
+    }
+    if bytes[2] != b'P' {
+        return false;
+    }
+    if bytes[3] != 0 {
+        return false;
+    }
+    bytes[4] == 1
+}
+
+// Read's tests once the width is known.
+fn read_at(layout: Layout, bytes: &[u8]) -> ReadAnswer
+    requires { ⌜ Sizes layout ⌝ }
+    requires { ⌜ 6 ≤ length (now bytes) ⌝ }
+    ensures { λ r. ⌜ readReport r ≡ readAt layout (now (bytes .entry)) ⌝ }
+{
+    if bytes.len() != layout.size {
+        return ReadAnswer::Refused {
+            number: 2,
+            place: 0,
+        };
+    }
+    let at = first_large(layout.inputs as u8, &bytes[6..]);
+    if at < bytes.len() - 6 {
+        return ReadAnswer::Refused {
+            number: 3,
+            place: 6 + at,
+        };
+    }
+    ReadAnswer::Done {
+        width: layout.width,
+    }
+}
+
+// Read: accepts a record or refuses it, and hands back the width.
+pub fn read(bytes: &[u8]) -> ReadAnswer
+    ensures { λ r. ⌜ readReport r ≡ readOutcome (now (bytes .entry)) ⌝ }
+{
+    if bytes.len() < 6 {
+        return ReadAnswer::Refused {
+            number: 2,
+            place: 0,
+        };
+    }
+    if !marked(bytes) {
+        return ReadAnswer::Refused {
+            number: 5,
+            place: 0,
+        };
+    }
+    let width = bytes[5] as u32;
+    if !known(width) {
+        return ReadAnswer::Refused {
+            number: 1,
+            place: 0,
+        };
+    }
+    read_at(layout_of(width), bytes)
+}

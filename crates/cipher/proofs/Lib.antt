@@ -1,4 +1,3 @@
-pub mod Parts
 pub mod Figures
 pub mod Runs
 pub mod Nibbles

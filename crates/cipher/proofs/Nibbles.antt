@@ -21,7 +21,7 @@ use Rattle.present.proofs.Sharing.{share-map}
 use Rattle.layers.specs.State.{shareAt, sharesOf, sharing}
 use Rattle.layers.proofs.View.{share-past}
 use Rattle.cipher.specs.Box.{Closed}
-use Rattle.cipher.proofs.Parts.{went-map}
+use Rattle.steps.proofs.Parts.{went-map}
 
 -- a record of width 4 has 33 bytes
 pub record-bytes : {n : ℕ} → 33 ≤ n → 6 + (basisSize 4 + (basisSize 4 + 1)) * length (exponents 4) ≤ n

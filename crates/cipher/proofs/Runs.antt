@@ -11,43 +11,10 @@ use Rattle.steps.specs.Machine.{Ended, ended, exec, onward, Went}
 use Rattle.steps.specs.Loop.{each}
 use Rattle.steps.specs.Sharing.{share}
 use Rattle.steps.proofs.Machine.{exec-bind, then-runs, done-runs}
+use Rattle.steps.proofs.Parts.{went-map, went-once}
 use Rattle.steps.proofs.Loop.{each-all}
-use Rattle.cipher.proofs.Parts.{went-map}
 use Rattle.present.specs.Present.{nibble, size80, roundNumber}
 use Rattle.present.specs.Masked.{shareWise, alone, noteNibbles, noteShares, recorded, addRoundNumber}
-
--- ---- a loop of one turn
-
-module _ (tape watch : List ℕ) {A : Type 0} (i : ℕ) (f : ℕ → A → Run A) (a : A) (n : Counts) (vs : List ℕ) where
-  once-runs : exec tape watch (for i (i + 1) f a) n vs ≡ exec tape watch (f i a) n vs
-  unfolding for loop exec
-  once-runs =
-      let e : i + 1 - i ≡ 1 = omega arith in
-      ap (λ (k : ℕ). exec tape watch (loop f i k a) n vs) e ∙ exec-bind tape watch (f i a) (loop f (i + 1) 0) n vs ∙ ends (exec tape watch (f i a) n vs)
-    where
-      ends : (e : Ended A) → onward tape watch e (loop f (i + 1) 0) ≡ e
-      ends (ended x m us) = refl
-
-module _ {A : Type 0} (i : ℕ) (f : ℕ → A → Run A) (a : A) {p q r : ℕ} {tape watch : List ℕ} {n : Counts} {vs : List ℕ} {x : A} {n′ : Counts}
-    {vs′ : List ℕ} where
-  -- the loop is its turn, and its turn is the loop
-  pub went-turn : Went p q r tape watch (for i (i + 1) f a) n vs x n′ vs′ → Went p q r tape watch (f i a) n vs x n′ vs′
-  went-turn w =
-      record {
-        runs = sym (once-runs tape watch i f a n vs) ∙ w .runs;
-        took-products = w .took-products;
-        took-draws = w .took-draws;
-        took-steps = w .took-steps;
-      }
-
-  pub went-once : Went p q r tape watch (f i a) n vs x n′ vs′ → Went p q r tape watch (for i (i + 1) f a) n vs x n′ vs′
-  went-once w =
-      record {
-        runs = once-runs tape watch i f a n vs ∙ w .runs;
-        took-products = w .took-products;
-        took-draws = w .took-draws;
-        took-steps = w .took-steps;
-      }
 
 -- ---- recording
 

@@ -61,16 +61,6 @@ module _ (tape watch : List ℕ) where
   multiply-runs w s x y z t n vs ea eb e et =
       then-runs tape watch (product w s (row t x) (row t y)) (λ c. done (put s t z c)) n vs (rw (ea, eb) at e) (done-runs tape watch _ _ et)
 
--- a program that has run, and whose result is then changed
-pub went-done : {A B : Type 0} {p q r : ℕ} {tape watch : List ℕ} {m : Run A} {n : Counts} {vs : List ℕ} {x : A} {n′ : Counts} {vs′ : List ℕ} (g : A → B)
-    → Went p q r tape watch m n vs x n′ vs′ → Went p q r tape watch (m >>= (λ a. done (g a))) n vs (g x) n′ vs′
-went-done {tape = tape} {watch = watch} {m = m} {n = n} {vs = vs} {n′ = n′} {vs′ = vs′} g w = record {
-  runs = then-runs tape watch m (λ a. done (g a)) n vs (w .runs) (done-runs tape watch n′ vs′ refl);
-  took-products = w .took-products;
-  took-draws = w .took-draws;
-  took-steps = w .took-steps;
-}
-
 -- one more share of a row that is put
 pub put-turn : (k : ℕ) (t₀ : List ℕ) (r : ℕ) (c t : List ℕ) → t ≡ put k t₀ r c → set t (9 * r + k) (getD c k 0) ≡ put (k + 1) t₀ r c
 unfolding put setCell

@@ -11,6 +11,7 @@ pub mod Secrecy
 pub mod Recorder
 pub mod Tape
 pub mod Machine
+pub mod Parts
 pub mod Loop
 pub mod Fill
 pub mod Operations

@@ -4,7 +4,7 @@ use Rattle.steps.specs.Loop.{each}
 use Rattle.present.specs.Masked.{maskedEncrypt}
 use Rattle.layers.specs.State.{sharing}
 use Rattle.cipher.specs.Figures.{roundProducts, roundDraws, roundSteps}
-use Rattle.cipher.proofs.Parts.{ready-counts, went-counts, ready-first, ready-next, went-then}
+use Rattle.steps.proofs.Parts.{ready-counts, went-counts, ready-first, ready-next, went-then}
 use Rattle.cipher.proofs.Figures.{block-products, block-draws, block-steps}
 use native.Mathlib.Omega.{arith}
 use borrow.Author.Needs.{needs}

@@ -6,7 +6,8 @@ use Rattle.steps.specs.Loop.{Going, each}
 use Rattle.steps.proofs.Loop.{going, going-ready, going-on, gone, each-turn, each-end}
 use Rattle.present.specs.Masked.{noteNibbles}
 use Rattle.layers.specs.State.{shareAt}
-use Rattle.cipher.proofs.Runs.{went-turn, nibbleTurn}
+use Rattle.steps.proofs.Parts.{went-turn}
+use Rattle.cipher.proofs.Runs.{nibbleTurn}
 use borrow.Author.Needs.{needs}
 use Rattle.cipher.proofs.recording.record_nibbles.Statement.{statement}
 use Rattle.cipher.proofs.recording.record_nibbles.Tie as tie

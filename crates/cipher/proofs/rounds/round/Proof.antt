@@ -4,7 +4,7 @@ use Prim.Native.Nat.{_+_, _*_}
 use Rattle.steps.specs.Loop.{each}
 use Rattle.sbox.specs.Figures.{sboxProducts, sboxDraws, sboxSteps}
 use Rattle.present.specs.Masked.{maskedRound}
-use Rattle.cipher.proofs.Parts.{ready-counts, went-counts, ready-first, ready-next, went-then, went-map}
+use Rattle.steps.proofs.Parts.{ready-counts, went-counts, ready-first, ready-next, went-then, went-map}
 use Rattle.cipher.proofs.Figures.{round-products, round-draws, round-steps}
 use native.Mathlib.Omega.{arith}
 use borrow.Author.Needs.{needs}

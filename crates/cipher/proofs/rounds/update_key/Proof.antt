@@ -8,8 +8,7 @@ use Rattle.sbox.specs.Figures.{sboxProducts, sboxDraws, sboxSteps}
 use Rattle.present.specs.Present.{size80, topNibble}
 use Rattle.present.specs.Masked.{addRoundNumber, maskedNibble, maskedTopNibbles, maskedUpdate}
 use Rattle.cipher.specs.Box.{recordSbox}
-use Rattle.cipher.proofs.Parts.{ready-counts, went-counts, ready-first, ready-next, went-then}
-use Rattle.cipher.proofs.Runs.{went-once}
+use Rattle.steps.proofs.Parts.{ready-counts, went-counts, ready-first, ready-next, went-then, went-once}
 use Rattle.cipher.proofs.Figures.{between, update-steps}
 use native.Mathlib.Omega.{arith}
 use borrow.Author.Needs.{needs}

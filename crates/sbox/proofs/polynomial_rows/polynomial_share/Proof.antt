@@ -2,7 +2,7 @@
 use borrow.Author.Needs.{needs}
 use Rattle.sbox.specs.Table as table
 use Rattle.sbox.specs.TableSteps as spec
-use Rattle.sbox.proofs.TableRuns.{went-done}
+use Rattle.steps.proofs.Parts.{went-map}
 use Rattle.sbox.proofs.polynomial_rows.polynomial_share.Statement.{statement}
 use Rattle.sbox.proofs.polynomial_rows.polynomial_share.Tie as tie
 
@@ -30,7 +30,7 @@ same-length c = search needs
 returns : tie.Need-returns
 unfolding spec.polynomialShare table.setCell
 returns c =
-    rw (← (c .before .before .before .before .before .before .constant .ensures)) (went-done _ (c .before .before .before .terms .ensures))
+    rw (← (c .before .before .before .before .before .before .constant .ensures)) (went-map _ (c .before .before .before .terms .ensures))
 
 pub polynomial-share-spec : {M : Type 1} → statement M
 polynomial-share-spec =

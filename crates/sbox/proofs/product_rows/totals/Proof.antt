@@ -11,7 +11,7 @@ use Rattle.steps.proofs.Loop.{going, going-ready, going-on, gone, each-turn, ea
 use Rattle.sbox.specs.Sbox.{byShare}
 use Rattle.sbox.specs.TableSteps as spec
 use Rattle.sbox.specs.TableCounts.{totalSteps}
-use Rattle.sbox.proofs.TableRuns.{went-done}
+use Rattle.steps.proofs.Parts.{went-map}
 use Rattle.sbox.proofs.product_rows.totals.Statement.{statement}
 use Rattle.sbox.proofs.product_rows.totals.Tie as tie
 
@@ -45,7 +45,7 @@ loop-again : tie.Need-loop-again Inv-loop μ-loop
 loop-again c =
     let l = c .before .before .before .before .before .before .loop in
     let h = c .before .before .before .before .before .loop-test .taken in
-    (simp length-set (l .inv .0), going-on (l .inv .1) h (went-done _ (c .before .before .before .total-share .ensures)) (search needs) refl refl (each-turn _ h))
+    (simp length-set (l .inv .0), going-on (l .inv .1) h (went-map _ (c .before .before .before .total-share .ensures)) (search needs) refl refl (each-turn _ h))
 
 same-length : tie.Need-same-length Inv-loop μ-loop
 same-length c = search needs

@@ -1,13 +1,13 @@
--- One part of a run after another: what is left for the later part, and what both come to.
-use mathlib.Core.Path.{_≡_, refl}
+-- The parts of a run: one after another, what is left for the later one and what both come to; a result that is changed; a loop of one turn.
+use mathlib.Core.Path.{_≡_, refl, sym, ap, _∙_}
 use mathlib.Core.List.{List}
-use Prim.Native.Nat.{ℕ, _+_}
+use Prim.Native.Nat.{ℕ, _+_, _-_}
 use native.Mathlib.Omega.{arith}
 use lib.ListN.{length}
 use Rattle.steps.specs.declared.counts.Counts.{Counts}
-use Rattle.steps.specs.Program.{Run, done, _>>=_}
-use Rattle.steps.specs.Machine.{exec, Ready, Went}
-use Rattle.steps.proofs.Machine.{then-runs}
+use Rattle.steps.specs.Program.{Run, done, _>>=_, loop, for}
+use Rattle.steps.specs.Machine.{Ended, ended, exec, onward, Ready, Went}
+use Rattle.steps.proofs.Machine.{exec-bind, then-runs}
 
 module _ {tape watch : List ℕ} {n : Counts} {vs : List ℕ} where
   -- the same counts in another form
@@ -55,6 +55,39 @@ module _ {tape watch : List ℕ} {n : Counts} {vs : List ℕ} where
   went-map {m = m} g w =
       record {
         runs = then-runs tape watch m (λ a. done (g a)) n vs (w .runs) refl;
+        took-products = w .took-products;
+        took-draws = w .took-draws;
+        took-steps = w .took-steps;
+      }
+
+-- ---- a loop of one turn
+
+module _ (tape watch : List ℕ) {A : Type 0} (i : ℕ) (f : ℕ → A → Run A) (a : A) (n : Counts) (vs : List ℕ) where
+  once-runs : exec tape watch (for i (i + 1) f a) n vs ≡ exec tape watch (f i a) n vs
+  unfolding for loop exec
+  once-runs =
+      let e : i + 1 - i ≡ 1 = omega arith in
+      ap (λ (k : ℕ). exec tape watch (loop f i k a) n vs) e ∙ exec-bind tape watch (f i a) (loop f (i + 1) 0) n vs ∙ ends (exec tape watch (f i a) n vs)
+    where
+      ends : (e : Ended A) → onward tape watch e (loop f (i + 1) 0) ≡ e
+      ends (ended x m us) = refl
+
+module _ {A : Type 0} (i : ℕ) (f : ℕ → A → Run A) (a : A) {p q r : ℕ} {tape watch : List ℕ} {n : Counts} {vs : List ℕ} {x : A} {n′ : Counts}
+    {vs′ : List ℕ} where
+  -- the loop is its turn, and its turn is the loop
+  pub went-turn : Went p q r tape watch (for i (i + 1) f a) n vs x n′ vs′ → Went p q r tape watch (f i a) n vs x n′ vs′
+  went-turn w =
+      record {
+        runs = sym (once-runs tape watch i f a n vs) ∙ w .runs;
+        took-products = w .took-products;
+        took-draws = w .took-draws;
+        took-steps = w .took-steps;
+      }
+
+  pub went-once : Went p q r tape watch (f i a) n vs x n′ vs′ → Went p q r tape watch (for i (i + 1) f a) n vs x n′ vs′
+  went-once w =
+      record {
+        runs = once-runs tape watch i f a n vs ∙ w .runs;
         took-products = w .took-products;
         took-draws = w .took-draws;
         took-steps = w .took-steps;

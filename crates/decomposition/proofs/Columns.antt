@@ -8,8 +8,9 @@ use native.Mathlib.Omega.{arith}
 use lib.Dec.{ltb}
 use lib.ListN.{getD}
 use borrow.Author.Tests.{le-ltb, lt-ltb}
-use Rattle.xor.specs.Sum.{Small as SmallList}
+use Rattle.xor.specs.Sum.{sumOf, Small as SmallList}
 use Rattle.xor.specs.Xor.{_⊕_}
+use Rattle.xor.proofs.Sum.{sum-of-same}
 use Rattle.field.specs.Mul.{mul, Ring}
 use Rattle.field.specs.Polynomial.{exponents}
 use Rattle.field.proofs.Inverses.{field-of}
@@ -20,23 +21,18 @@ use Rattle.linear.specs.Scalars.{scalars}
 use Rattle.linear.proofs.Row.{dot-agree, dot-append, dot-below, dot-comm, small-shorter, times-dot}
 use Rattle.linear.proofs.Scalars.{laws-of}
 use Rattle.decomposition.specs.Equations.{equation}
-use Rattle.decomposition.specs.Form.{column, factor, form, monomial, total, valueOf}
+use Rattle.decomposition.specs.Form.{column, factor, form, monomial, valueOf}
 use Rattle.decomposition.specs.Layout.{Sizes}
 use Rattle.decomposition.specs.declared.layouts.Layout.{Layout}
 use Rattle.decomposition.proofs.Value.{value-dot}
 
 -- ---- sums
 
-pub total-same : (k : ℕ) {f g : ℕ → ℕ} → ((i : ℕ) → i < k → f i ≡ g i) → total k f ≡ total k g
-unfolding total
-total-same zero h = refl
-total-same (suc k) h = ap₂ _⊕_ (total-same k (λ i l. h i (omega arith))) (h k (le-refl (suc k)))
-
 -- the last term of a sum
-total-last : (k : ℕ) (f : ℕ → ℕ) → 0 < k → total k f ≡ total (k - 1) f ⊕ f (k - 1)
-unfolding total
-total-last zero f h = absurd (omega arith)
-total-last (suc k) f h = let e : suc k - 1 ≡ k = omega arith in rw e refl
+sum-of-last : (k : ℕ) (f : ℕ → ℕ) → 0 < k → sumOf k f ≡ sumOf (k - 1) f ⊕ f (k - 1)
+unfolding sumOf
+sum-of-last zero f h = absurd (omega arith)
+sum-of-last (suc k) f h = let e : suc k - 1 ≡ k = omega arith in rw e refl
 
 -- ---- the elements
 
@@ -105,9 +101,9 @@ module _ {L : Layout} (z : Sizes L) (basis : List ℕ) (sb : SmallList (L .width
   -- the columns of the first i polynomials, times the unknowns
   blocks-dot : (p : ℕ → ℕ) (i : ℕ) → Small (scalars (L .width)) (i * L .exponents) p
       → dot (scalars (L .width)) (i * L .exponents) (column L basis x) p
-      ≡ total i (λ m. mul (L .width) (factor L basis m x) (dot (scalars (L .width)) (L .exponents) (monomial (L .width) x)
+      ≡ sumOf i (λ m. mul (L .width) (factor L basis m x) (dot (scalars (L .width)) (L .exponents) (monomial (L .width) x)
       (λ j. p (m * L .exponents + j))))
-  unfolding total
+  unfolding sumOf
   blocks-dot p zero s = ap (λ (k : ℕ). dot (scalars (L .width)) k (column L basis x) p) (zero-mul (L .exponents)) ∙ none
     where
       none : dot (scalars (L .width)) 0 (column L basis x) p ≡ 0
@@ -151,9 +147,9 @@ module _ {L : Layout} (z : Sizes L) (basis : List ℕ) (sb : SmallList (L .width
         let product : ℕ → ℕ = λ i. mul n (factor L basis i x) (valueOf L p i x) in
         ap (λ (k : ℕ). dot (scalars n) k (column L basis x) (λ k. getD p k 0)) (z .unknowns)
         ∙ blocks-dot (λ k. getD p k 0) t (record { at = λ k l. sp k })
-        ∙ total-same t {g = product} (λ i l. ap (mul n (factor L basis i x)) (block i))
-        ∙ total-last t product (z .some-terms)
-        ∙ ap₂ _⊕_ (total-same (t - 1) (λ i l. inner-term i (omega arith))) (last-term (t - 1) (let q = z .some-terms in omega arith))
+        ∙ sum-of-same t {g = product} (λ i l. ap (mul n (factor L basis i x)) (block i))
+        ∙ sum-of-last t product (z .some-terms)
+        ∙ ap₂ _⊕_ (sum-of-same (t - 1) (λ i l. inner-term i (omega arith))) (last-term (t - 1) (let q = z .some-terms in omega arith))
 
     -- the equation at x says that the form has the value v there
     pub form-equation : (v : ℕ) → dot (scalars (L .width)) (L .unknowns) (equation L basis x v) (λ k. getD p k 0) ≡ form L basis p x

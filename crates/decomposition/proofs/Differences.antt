@@ -8,17 +8,18 @@ use native.Mathlib.Omega.{arith}
 use lib.ListN.{getD, drop, length}
 use lib.Seq.{getD-take, getD-drop, drop-cons, drop-length}
 use borrow.Author.Tests.{ne-eqb, eq-eqb}
+use Rattle.xor.specs.Sum.{sumOf}
+use Rattle.xor.proofs.Sum.{sum-of-same}
 use Rattle.field.specs.Mul.{mul}
 use Rattle.linear.specs.Buffer.{from}
 use Rattle.linear.specs.Row.{Agree, dot}
 use Rattle.linear.specs.Scalars.{scalars}
 use Rattle.linear.proofs.Row.{dot-agree}
 use Rattle.decomposition.specs.Check.{firstDifference, recordProducts}
-use Rattle.decomposition.specs.Form.{monomial, total, valueOf}
+use Rattle.decomposition.specs.Form.{monomial, valueOf}
 use Rattle.decomposition.specs.Layout.{Sizes}
 use Rattle.decomposition.specs.Record.{basisOf, solutionOf}
 use Rattle.decomposition.specs.declared.layouts.Layout.{Layout}
-use Rattle.decomposition.proofs.Columns.{total-same}
 use Rattle.decomposition.proofs.Sizes.{basis-room}
 use Rattle.decomposition.proofs.Value.{value-dot}
 
@@ -53,8 +54,8 @@ module _ {L : Layout} (z : Sizes L) (r powers : List ℕ) (x : ℕ) (a : Agree (
       a
       ∙ sym (value-dot z (basisOf L r) i x)
 
-  pub products-record : total (L .terms - 1) (productAt (L .width) (L .exponents) (L .start) r powers) ≡ recordProducts L r x (L .terms - 1)
-  products-record = total-same (L .terms - 1) (λ i l. ap₂ (mul (L .width)) (solution-value i) (basis-value i (omega arith)))
+  pub products-record : sumOf (L .terms - 1) (productAt (L .width) (L .exponents) (L .start) r powers) ≡ recordProducts L r x (L .terms - 1)
+  products-record = sum-of-same (L .terms - 1) (λ i l. ap₂ (mul (L .width)) (solution-value i) (basis-value i (omega arith)))
 
 -- ---- the first difference
 

@@ -4,12 +4,13 @@ use mathlib.Core.List.{List, [], _∷_}
 use Prim.Native.Nat.{ℕ, suc}
 use lib.Dec.{leb, eqb}
 use lib.ListN.{length, getD}
+use Rattle.xor.specs.Sum.{sumOf}
 use Rattle.refusal.specs.Outcome.{Outcome, done, refused, test, andThen}
+use Rattle.refusal.specs.Large.{testBelow}
 use Rattle.field.specs.Mul.{mul}
-use Rattle.decomposition.specs.Form.{form, total, valueOf}
+use Rattle.decomposition.specs.Form.{form, valueOf}
 use Rattle.decomposition.specs.Layout.{layout}
 use Rattle.decomposition.specs.Record.{basisOf, solutionOf, readOutcome}
-use Rattle.refusal.specs.Large.{testBelow}
 use Rattle.decomposition.specs.declared.checking.CheckAnswer.{CheckAnswer}
 use Rattle.decomposition.specs.declared.checking.CheckAnswer.the-variants.{Done, Refused}
 use Rattle.decomposition.specs.declared.layouts.Layout.{Layout}
@@ -20,7 +21,7 @@ recordForm L r = form L (basisOf L r) (solutionOf L r)
 
 -- the sum of its first k products p1·q1, ..
 abbrev pub recordProducts : Layout → List ℕ → ℕ → ℕ → ℕ
-recordProducts L r x k = total k (λ i. mul (L .width) (valueOf L (solutionOf L r) i x) (valueOf L (basisOf L r) i x))
+recordProducts L r x k = sumOf k (λ i. mul (L .width) (valueOf L (solutionOf L r) i x) (valueOf L (basisOf L r) i x))
 
 -- the first input at which f and the table differ; the table's length if there is none
 unfoldable pub firstDifference : (ℕ → ℕ) → List ℕ → ℕ

@@ -5,10 +5,10 @@ use Prim.Native.Nat.{ℕ}
 use lib.Dec.{eqb}
 use lib.ListN.{length, replicate}
 use Rattle.refusal.specs.Outcome.{Outcome, done, refused, test}
+use Rattle.refusal.specs.Large.{testBelow}
 use Rattle.decomposition.specs.Form.{Decomposition, NoDecomposition}
 use Rattle.decomposition.specs.Layout.{known, layout}
 use Rattle.decomposition.specs.Record.{recordOf}
-use Rattle.refusal.specs.Large.{testBelow}
 use Rattle.decomposition.specs.declared.fitting.FitAnswer.{FitAnswer}
 use Rattle.decomposition.specs.declared.fitting.FitAnswer.the-variants.{Done, Refused}
 use Rattle.decomposition.specs.declared.fitting.HouseFitAnswer.{HouseFitAnswer}

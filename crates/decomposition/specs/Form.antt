@@ -2,10 +2,10 @@
 use mathlib.Core.Bool.{cond}
 use mathlib.Core.List.{List}
 use mathlib.Core.Path.{_≡_}
-use Prim.Native.Nat.{ℕ, zero, suc, _-_, _*_, _/_, _%_, _^_, _<_}
+use Prim.Native.Nat.{ℕ, suc, _-_, _*_, _/_, _%_, _^_, _<_}
 use lib.Dec.{ltb}
 use lib.ListN.{length, getD, take, drop}
-use Rattle.xor.specs.Sum.{Small}
+use Rattle.xor.specs.Sum.{sumOf, Small}
 use Rattle.xor.specs.Xor.{_⊕_}
 use Rattle.field.specs.Mul.{mul}
 use Rattle.field.specs.Polynomial.{exponents, value}
@@ -24,14 +24,9 @@ polynomial L coefficients i = take (L .exponents) (drop (i * L .exponents) coeff
 unfoldable pub valueOf : Layout → List ℕ → ℕ → ℕ → ℕ
 valueOf L coefficients i x = value (L .width) (polynomial L coefficients i) x
 
--- f 0 + .. + f (k - 1)
-unfoldable pub total : ℕ → (ℕ → ℕ) → ℕ
-total zero f = 0
-total (suc k) f = total k f ⊕ f k
-
 -- p1·q1 + .. + p(t-1)·q(t-1) + pt at x
 unfoldable pub form : Layout → List ℕ → List ℕ → ℕ → ℕ
-form L basis p x = total (L .terms - 1) (λ i. mul (L .width) (valueOf L p i x) (valueOf L basis i x)) ⊕ valueOf L p (L .terms - 1) x
+form L basis p x = sumOf (L .terms - 1) (λ i. mul (L .width) (valueOf L p i x) (valueOf L basis i x)) ⊕ valueOf L p (L .terms - 1) x
 
 -- p meets the table: with it the form computes the table, at all inputs
 pub record Computes (L : Layout) (table basis p : List ℕ) : Type 0 where

@@ -11,18 +11,19 @@ use lib.Pow.{pow-pos}
 use lib.Seq.{getD-drop, drop-drop, take-take}
 use Rattle.xor.specs.Xor.{_⊕_}
 use Rattle.xor.specs.Sum.{Small}
+use Rattle.xor.proofs.Sum.{sum-of-same}
 use Rattle.field.specs.Mul.{Width, mul}
 use Rattle.field.specs.Polynomial.{exponents, value}
 use Rattle.steps.specs.Fill.{tabulate}
 use Rattle.steps.proofs.Fill.{length-tabulate, getD-tabulate}
 use Rattle.decomposition.specs.Layout.{termsOf, layout, sized}
-use Rattle.decomposition.specs.Form.{total, valueOf, form}
+use Rattle.decomposition.specs.Form.{valueOf, form}
 use Rattle.decomposition.specs.Record as record-of
 use Rattle.decomposition.specs.Record.{basisOf, solutionOf}
 use Rattle.decomposition.specs.Check.{recordForm}
 use Rattle.decomposition.proofs.Sizes.{known-width}
 use Rattle.sbox.specs.Sbox.{nth}
-use Rattle.sbox.specs.Form.{sumOf, formOf, Coefficients, basisSize, Accepted}
+use Rattle.sbox.specs.Form.{formOf, Coefficients, basisSize, Accepted}
 use Rattle.sbox.specs.Polynomials.{polynomialsOf, basisIn, solutionIn}
 
 -- ---- the polynomials of a list of coefficients
@@ -89,11 +90,6 @@ take-within m (suc i) zero l h = absurd (omega arith)
 take-within m (suc i) (suc b) [] h = refl
 take-within m (suc i) (suc b) (x ∷ l) h = take-within m i b l (omega arith)
 
-sum-same : (k : ℕ) (f g : ℕ → ℕ) → ((i : ℕ) → i < k → f i ≡ g i) → sumOf k f ≡ total k g
-unfolding sumOf total
-sum-same zero f g h = refl
-sum-same (suc k) f g h = ap₂ _⊕_ (sum-same k f g (λ i l. h i (omega arith))) (h k (omega arith))
-
 room : (e : ℕ) {i k : ℕ} → i < k → i * e + e ≤ k * e
 room e {i} {k} h = rw (suc-mul i e) at (mul-le-mul h (le-refl e))
 
@@ -105,7 +101,7 @@ record-form n w r x =
     let after = drop (6 + k * e) r in
     rw (← basis-size n w, length-polynomials e k (drop 6 r))
     (ap₂ _⊕_
-    (sum-same k _ _ (λ i h. ap₂ (mul n)
+    (sum-of-same k (λ i h. ap₂ (mul n)
     (ap (λ (c : List ℕ). value n c x) (nth-polynomials e (suc k) after i (omega arith)))
     (ap (λ (c : List ℕ). value n c x) (nth-polynomials e k (drop 6 r) i h ∙ sym (take-within e (i * e) (k * e) (drop 6 r) (room e h))))))
     (ap (λ (c : List ℕ). value n c x) (nth-polynomials e (suc k) after k (omega arith))))

@@ -7,7 +7,7 @@ use native.Mathlib.Omega.{arith}
 use lib.ListN.{length, getD, length-append, List·getD-eq-default}
 use lib.Pow.{pow-pos}
 use Rattle.xor.specs.Xor.{_⊕_}
-use Rattle.xor.specs.Sum.{join, Small}
+use Rattle.xor.specs.Sum.{join, sumOf, Small}
 use Rattle.xor.proofs.Xor.{⊕-assoc, ⊕-zero, zero-⊕}
 use Rattle.xor.proofs.Sum.{additive-below, join-nil, join-cons, join-append, join-small}
 use Rattle.field.specs.Mul.{Width, mul}
@@ -25,7 +25,7 @@ use Rattle.steps.proofs.Sharing.{forSum, for-sum-end, for-sum-same, join-for}
 use Rattle.product.specs.Product.{productShape}
 use Rattle.product.proofs.Shape.{shaped-product}
 use Rattle.sbox.specs.Sbox.{nth, constant, term, polynomial, polynomials, products, total, sbox}
-use Rattle.sbox.specs.Form.{sumOf, formOf, SmallAll, Coefficients}
+use Rattle.sbox.specs.Form.{formOf, SmallAll, Coefficients}
 use Rattle.sbox.specs.Shape.{times, termShape, polynomialShape, totalShape, sboxShape}
 use Rattle.sbox.proofs.ByShare.{for-sum-none, for-sum-head, adds-share, adds-map, adds-add, adds-sum, adds-constant}
 use Rattle.sbox.proofs.ByShare.{shaped-add-up, shaped-by-share}

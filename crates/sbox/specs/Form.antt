@@ -2,19 +2,14 @@
 use mathlib.Core.Path.{_≡_}
 use mathlib.Core.Bool.{cond}
 use mathlib.Core.List.{List}
-use Prim.Native.Nat.{ℕ, zero, suc}
+use Prim.Native.Nat.{ℕ, suc}
 use lib.Dec.{eqb}
 use lib.ListN.{length}
 use Rattle.xor.specs.Xor.{_⊕_}
-use Rattle.xor.specs.Sum.{Small}
+use Rattle.xor.specs.Sum.{sumOf, Small}
 use Rattle.field.specs.Mul.{Width, mul}
 use Rattle.field.specs.Polynomial.{value}
 use Rattle.sbox.specs.Sbox.{nth}
-
--- f 0 + .. + f (k - 1)
-unfoldable pub sumOf : ℕ → (ℕ → ℕ) → ℕ
-sumOf zero f = 0
-sumOf (suc k) f = sumOf k f ⊕ f k
 
 -- the form at x: qs has the coefficients of the basis q1 to q(t-1), ps those of p1 to pt
 unfoldable pub formOf : ℕ → List (List ℕ) → List (List ℕ) → ℕ → ℕ

@@ -1,5 +1,5 @@
 -- The laws of sums of lists.
-use mathlib.Core.Path.{_≡_, refl, sym, ap, _∙_}
+use mathlib.Core.Path.{_≡_, refl, sym, ap, ap₂, _∙_}
 use mathlib.Core.Logic.{_≢_}
 use mathlib.Core.List.{List, [], _∷_, _++_, map}
 use Prim.Native.Nat.{ℕ, zero, suc, _^_, _<_}
@@ -9,7 +9,7 @@ use lib.Pow.{pow-pos}
 use lib.Seq.{getD-set-other, lt-length-set}
 use lib.ListN.{length, getD, set, replicate}
 use Rattle.xor.specs.Xor.{_⊕_}
-use Rattle.xor.specs.Sum.{join, addLists, Small, Additive, AdditiveBelow}
+use Rattle.xor.specs.Sum.{join, sumOf, addLists, Small, Additive, AdditiveBelow}
 use Rattle.xor.proofs.Xor.{⊕-assoc, ⊕-zero, zero-⊕, ⊕-self, ⊕-lt, ⊕-cancel, ⊕-exchange, xor}
 
 -- ---- lists of small elements
@@ -23,6 +23,13 @@ small-tail n a l h i = h (suc i)
 pub small-cons : (n a : ℕ) (l : List ℕ) → a < 2 ^ n → Small n l → Small n (a ∷ l)
 small-cons n a l h t zero = h
 small-cons n a l h t (suc i) = t i
+
+-- ---- sums of the values of a function
+
+pub sum-of-same : (k : ℕ) {f g : ℕ → ℕ} → ((i : ℕ) → i < k → f i ≡ g i) → sumOf k f ≡ sumOf k g
+unfolding sumOf
+sum-of-same zero h = refl
+sum-of-same (suc k) h = ap₂ _⊕_ (sum-of-same k (λ i l. h i (omega arith))) (h k (omega arith))
 
 -- ---- the joined value
 

@@ -1,7 +1,7 @@
 -- Sums of lists, and functions that keep sums.
 use mathlib.Core.Path.{_≡_}
 use mathlib.Core.List.{List, [], _∷_}
-use Prim.Native.Nat.{ℕ, _^_, _<_}
+use Prim.Native.Nat.{ℕ, zero, suc, _^_, _<_}
 use lib.ListN.{getD}
 use Rattle.xor.specs.Xor.{_⊕_}
 
@@ -9,6 +9,11 @@ use Rattle.xor.specs.Xor.{_⊕_}
 unfoldable pub join : List ℕ → ℕ
 join [] = 0
 join (a ∷ l) = a ⊕ join l
+
+-- f 0 + .. + f (k - 1)
+unfoldable pub sumOf : ℕ → (ℕ → ℕ) → ℕ
+sumOf zero f = 0
+sumOf (suc k) f = sumOf k f ⊕ f k
 
 -- two lists added place by place, as far as both go
 unfoldable pub addLists : List ℕ → List ℕ → List ℕ

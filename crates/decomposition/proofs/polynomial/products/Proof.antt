@@ -6,14 +6,14 @@ use native.Mathlib.Omega.{arith}
 use Rattle.xor.specs.Xor.{_⊕_}
 use Rattle.xor.proofs.Xor.{⊕-is}
 use Rattle.field.specs.Mul.{mul}
-use Rattle.decomposition.specs.Form.{total}
+use Rattle.xor.specs.Sum.{sumOf}
 use Rattle.decomposition.proofs.Differences.{productAt, products-record}
 use Rattle.decomposition.proofs.Sizes.{basis-room, unknowns-few}
 use Rattle.decomposition.proofs.polynomial.products.Statement.{statement}
 use Rattle.decomposition.proofs.polynomial.products.Tie as tie
 
 abbrev Inv-loop : tie.InvT-loop
-Inv-loop bytes powers width count last start sum₀ i₀ sum i = (i ≤ last) × (sum ≡ total i (productAt width count start bytes powers))
+Inv-loop bytes powers width count last start sum₀ i₀ sum i = (i ≤ last) × (sum ≡ sumOf i (productAt width count start bytes powers))
 
 abbrev μ-loop : tie.MeasureT-loop
 μ-loop bytes powers width count last start sum₀ i₀ sum i = last - i
@@ -30,7 +30,7 @@ sub-last : tie.Need-sub-last Inv-loop μ-loop
 sub-last c = c .before .before .before .pre .0 .some-terms
 
 loop-holds : tie.Need-loop-holds Inv-loop μ-loop
-unfolding total
+unfolding sumOf
 loop-holds c = (omega arith, refl)
 
 mul-evaluate : tie.Need-mul-evaluate Inv-loop μ-loop
@@ -75,7 +75,7 @@ loop-less : tie.Need-loop-less Inv-loop μ-loop
 loop-less c = omega arith
 
 loop-again : tie.Need-loop-again Inv-loop μ-loop
-unfolding total
+unfolding sumOf
 loop-again c =
     let at-loop = c .before .before .before .before in (
       omega arith,
@@ -92,7 +92,7 @@ returns c =
     let s = c .before .before .before .before .before in
     let e : c .before .loop .i ≡ s .args .layout .terms - 1 = omega arith in
     c .before .loop .inv .1
-    ∙ ap (λ (k : ℕ). total k (productAt (s .args .layout .width) (s .args .layout .exponents) (s .args .layout .start) (s .args .bytes .now)
+    ∙ ap (λ (k : ℕ). sumOf k (productAt (s .args .layout .width) (s .args .layout .exponents) (s .args .layout .start) (s .args .bytes .now)
     (s .args .powers .now))) e
     ∙ products-record (s .pre .0) (s .args .bytes .now) (s .args .powers .now) x a
 

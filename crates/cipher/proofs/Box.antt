@@ -15,7 +15,7 @@ use Rattle.decomposition.specs.Check.{recordForm}
 use Rattle.decomposition.proofs.ReadOutcome.{read-accepted}
 use Rattle.decomposition.proofs.Theorems.{check-computes}
 use Rattle.decomposition.proofs.Sizes.{layout-width}
-use Rattle.sbox.specs.Form.{formOf, Accepted}
+use Rattle.sbox.specs.Form.{formOf, AcceptedForm}
 use Rattle.sbox.specs.Polynomials.{basisIn, solutionIn}
 use Rattle.sbox.proofs.Shape.{shaped-sbox}
 use Rattle.sbox.proofs.Coupling.{coupled-sbox}
@@ -26,7 +26,7 @@ use Rattle.cipher.specs.Box.{recordSbox}
 use Rattle.cipher.specs.Experiment.{PresentRecord, boxShape}
 
 module _ (r : List ℕ) (accepted : PresentRecord r) (s : ℕ) where
-  coefficients : Accepted 4 (basisIn 4 r) (solutionIn 4 r)
+  coefficients : AcceptedForm 4 (basisIn 4 r) (solutionIn 4 r)
   coefficients = accepted-record 4 r (read-accepted r 4 (accepted .read))
 
   -- the form is PRESENT's S-box

@@ -27,10 +27,10 @@ use Rattle.steps.proofs.Machine.{went-watched}
 use Rattle.steps.proofs.Fill.{tabulate-same}
 use Rattle.steps.proofs.Tape.{elements-enough}
 use Rattle.decomposition.specs.Layout.{layout, sized, termsOf}
-use Rattle.decomposition.specs.Record.{readOutcome, Accepted}
+use Rattle.decomposition.specs.Record.{widthOf, readOutcome, Accepted}
 use Rattle.decomposition.specs.Check.{recordForm, firstDifference, checkOutcome}
 use Rattle.decomposition.proofs.ReadOutcome.{read-values, read-accepted}
-use Rattle.sbox.specs.Operations.{widthOf}
+use Rattle.sbox.specs.Operations.{}
 use Rattle.sbox.proofs.Record.{accepted-record}
 use Rattle.sbox.proofs.Runs.{result-sharing, result-places}
 use Rattle.sbox.proofs.Calls.{few-pairs, all-below}

@@ -13,6 +13,7 @@ use Rattle.steps.specs.Program.{Run, done, _>>=_, result}
 use Rattle.steps.specs.Sharing.{share, Sharing}
 use Rattle.steps.specs.Machine.{exec, Went}
 use Rattle.steps.proofs.Machine.{exec-whole, then-runs, done-runs}
+use Rattle.decomposition.specs.Layout.{termsOf}
 use Rattle.sbox.specs.Form.{basisSize}
 use Rattle.present.specs.Present.{nibble, replace}
 use Rattle.present.specs.Masked.{shareWise, maskedNibble}
@@ -25,7 +26,7 @@ use Rattle.steps.proofs.Parts.{went-map}
 
 -- a record of width 4 has 33 bytes
 pub record-bytes : {n : ℕ} → 33 ≤ n → 6 + (basisSize 4 + (basisSize 4 + 1)) * length (exponents 4) ≤ n
-unfolding basisSize
+unfolding basisSize termsOf
 record-bytes h = rw length-exponents-4 h
 
 -- nibble k of each share is a sharing of a nibble

@@ -15,9 +15,9 @@ use Rattle.steps.specs.Sharing.{share}
 use Rattle.steps.specs.Fill.{tabulate}
 use Rattle.steps.specs.Tape.{elements, bytesFor}
 use Rattle.decomposition.specs.Layout.{layout}
-use Rattle.decomposition.specs.Record.{readOutcome, Accepted}
+use Rattle.decomposition.specs.Record.{widthOf, readOutcome, Accepted}
 use Rattle.decomposition.specs.Check.{recordForm, firstDifference}
-use Rattle.sbox.specs.Operations.{widthOf, testSteps}
+use Rattle.sbox.specs.Operations.{testSteps}
 use Rattle.present.specs.Present.{table}
 use Rattle.layers.specs.State.{sharesOf, bytesOf}
 use Rattle.cipher.specs.Box.{blockProgram}

@@ -3,14 +3,14 @@ use mathlib.Core.Bool.{cond}
 use mathlib.Core.List.{List, [], _∷_}
 use Prim.Native.Nat.{ℕ, suc}
 use lib.Dec.{leb, eqb}
-use lib.ListN.{length, getD}
+use lib.ListN.{length}
 use Rattle.xor.specs.Sum.{sumOf}
 use Rattle.refusal.specs.Outcome.{Outcome, done, refused, test, andThen}
 use Rattle.refusal.specs.Large.{testBelow}
 use Rattle.field.specs.Mul.{mul}
 use Rattle.decomposition.specs.Form.{form, valueOf}
 use Rattle.decomposition.specs.Layout.{layout}
-use Rattle.decomposition.specs.Record.{basisOf, solutionOf, readOutcome}
+use Rattle.decomposition.specs.Record.{basisOf, solutionOf, widthOf, readOutcome}
 use Rattle.decomposition.specs.declared.checking.CheckAnswer.{CheckAnswer}
 use Rattle.decomposition.specs.declared.checking.CheckAnswer.the-variants.{Done, Refused}
 use Rattle.decomposition.specs.declared.layouts.Layout.{Layout}
@@ -38,7 +38,7 @@ checkAt L r table =
 
 -- what Check answers
 unfoldable pub checkOutcome : List ℕ → List ℕ → Outcome
-checkOutcome r table = andThen (readOutcome r) (checkAt (layout (getD r 5 0)) r table)
+checkOutcome r table = andThen (readOutcome r) (checkAt (layout (widthOf r)) r table)
 
 -- the outcome that each case of the answer stands for
 abbrev pub checkReport : CheckAnswer → Outcome

@@ -29,6 +29,10 @@ basisOf L r = take (L .basis) (drop 6 r)
 abbrev pub solutionOf : Layout → List ℕ → List ℕ
 solutionOf L r = drop (L .start) r
 
+-- the width that it names
+abbrev pub widthOf : List ℕ → ℕ
+widthOf r = getD r 5 0
+
 -- the mark and the version are right
 unfoldable pub marked : List ℕ → Bool
 marked r = eqb (getD r 0 0) 68 && (eqb (getD r 1 0) 67 && (eqb (getD r 2 0) 80 && (eqb (getD r 3 0) 0 && eqb (getD r 4 0) 1)))
@@ -44,8 +48,8 @@ unfoldable pub readOutcome : List ℕ → Outcome
 readOutcome r =
     test (leb 6 (length r)) 2 0
     (test (marked r) 5 0
-    (test (known (getD r 5 0)) 1 0
-    (readAt (layout (getD r 5 0)) r)))
+    (test (known (widthOf r)) 1 0
+    (readAt (layout (widthOf r)) r)))
 
 -- the outcome that each case of the answer stands for
 abbrev pub readReport : ReadAnswer → Outcome
@@ -55,6 +59,6 @@ readReport (Refused number place) = refused number place
 -- a record that Read accepts, of width n
 pub record Accepted (n : ℕ) (r : List ℕ) : Type 0 where
   pub width : Known n
-  pub named : getD r 5 0 ≡ n
+  pub named : widthOf r ≡ n
   pub whole : length r ≡ layout n .size
   pub elements : Small n (drop 6 r)

@@ -17,13 +17,13 @@ use Rattle.steps.specs.Tape.{elements, bytesFor}
 use Rattle.steps.proofs.Tape.{elements-length}
 use Rattle.sbox.specs.Figures.{sboxProducts, sboxDraws, sboxSteps}
 use Rattle.sbox.specs.Polynomials.{basisIn, solutionIn}
-use Rattle.sbox.specs.Operations.{widthOf, callProgram, callCounts, argumentTests, callTests, sboxOutcome, testSteps, watchOutcome, Callable}
+use Rattle.decomposition.specs.Record.{widthOf, readOutcome}
+use Rattle.sbox.specs.Operations.{callProgram, callCounts, argumentTests, callTests, sboxOutcome, testSteps, watchOutcome, Callable}
 use Rattle.sbox.proofs.Record.{accepted-record}
 use Rattle.sbox.proofs.Runs.{trace-length, draws-are, products-length}
 use Rattle.sbox.proofs.Calls.{tests-passed}
 use Rattle.refusal.specs.Range.{oneTo}
 use Rattle.refusal.proofs.Outcome.{passed, then-passed, done-values, then-alike}
-use Rattle.decomposition.specs.Record.{readOutcome}
 use borrow.Author.Tests.{leb-true}
 
 -- the figures of a call of width n and s shares

@@ -27,14 +27,14 @@ use Rattle.steps.specs.Machine.{zeroCounts, Ready, Went, Whole}
 use Rattle.steps.proofs.Machine.{went-watched}
 use Rattle.steps.proofs.Tape.{elements-enough}
 use Rattle.decomposition.specs.Layout.{termsOf, sized, layout}
-use Rattle.decomposition.specs.Record.{readOutcome, Accepted}
+use Rattle.decomposition.specs.Record.{widthOf, readOutcome, Accepted}
 use Rattle.decomposition.proofs.ReadOutcome.{read-values}
 use Rattle.decomposition.proofs.Sizes.{known-width}
 use Rattle.sbox.specs.Form.{basisSize}
 use Rattle.sbox.specs.Figures.{sboxProducts, sboxDraws, sboxSteps}
 use Rattle.sbox.specs.Polynomials.{basisIn, solutionIn}
 use Rattle.sbox.specs.Sbox.{sbox}
-use Rattle.sbox.specs.Operations.{widthOf, callProgram, callCounts, argumentTests, callTests, sboxOutput, watchOutput, SameShares, Callable}
+use Rattle.sbox.specs.Operations.{callProgram, callCounts, argumentTests, callTests, sboxOutput, watchOutput, SameShares, Callable}
 use Rattle.sbox.proofs.Places.{sbox-same}
 
 -- ---- numbers stay small

@@ -16,6 +16,7 @@ use Rattle.steps.specs.Shape.{stepOf, Shape, touchesOf, bitsOf, stepsOf, drawsO
 use Rattle.steps.proofs.Shape.{counts-steps, counts-draws, counts-products, counts-for, uniform-append, uniform-for}
 use Rattle.product.specs.Product.{productShape}
 use Rattle.product.proofs.Counts.{pairs-twice, product-steps, product-draws, product-products, uniform-product}
+use Rattle.decomposition.specs.Layout.{termsOf}
 use Rattle.sbox.specs.Form.{basisSize}
 use Rattle.sbox.specs.Shape.{times, squareShape, thirdShape, powersShape, termShape, polynomialShape, totalShape, sboxShape}
 use Rattle.sbox.specs.Figures.{sboxProducts, sboxDraws, sboxSteps}
@@ -87,7 +88,7 @@ module _ {f : Shape → ℕ} (c : Counting f) (n s q m : ℕ) (hq : (i : ℕ) �
       (c .both (times k (productShape n s)) (totalShape s k) ∙ ap₂ (λ (x y : ℕ). x + y) (counts-times k hm) (counts-total k))))
 
   counts-sbox : Width n → f (sboxShape n s (basisSize n)) ≡ ownSteps n * (s * q) + sboxProducts n * m
-  unfolding basisSize ownSteps sboxProducts
+  unfolding basisSize termsOf ownSteps sboxProducts
   counts-sbox (inl e) = counts-parts (basisSize n) 8 (rw e (omega (arith, length-exponents-4))) ∙ rw e (omega arith)
   counts-sbox (inr e) = counts-parts (basisSize n) 18 (rw e (omega (arith, length-exponents-6))) ∙ rw e (omega arith)
 
@@ -162,9 +163,9 @@ sbox-bits n s w = uniform-sbox n s (basisSize n) ∙ ap (λ (k : ℕ). replicate
 -- ---- check (j) on paper: three shares
 
 pub three-shares-4 : stepsOf (sboxShape 4 3 1) ≡ 213
-unfolding basisSize sboxSteps
+unfolding basisSize termsOf sboxSteps
 three-shares-4 = sbox-steps 4 3 (inl refl)
 
 pub three-shares-6 : stepsOf (sboxShape 6 3 3) ≡ 930
-unfolding basisSize sboxSteps
+unfolding basisSize termsOf sboxSteps
 three-shares-6 = sbox-steps 6 3 (inr refl)

@@ -21,7 +21,7 @@ use Rattle.steps.proofs.Split.{shaped-split, coupled-split, draws-bits, draws-t
 use Rattle.steps.proofs.Choices.{sum-same, tally-same, tally-all}
 use Rattle.product.specs.Product.{product, start, row, pair}
 use Rattle.sbox.specs.Sbox.{byShare, square, squares, powers, sbox}
-use Rattle.sbox.specs.Form.{formOf, basisSize, Accepted}
+use Rattle.sbox.specs.Form.{formOf, basisSize, AcceptedForm}
 use Rattle.sbox.specs.Shape.{sboxShape}
 use Rattle.sbox.specs.Figures.{sboxDraws}
 use Rattle.sbox.specs.Experiment.{experiment, experimentShape, choiceBits}
@@ -44,7 +44,7 @@ experiment-touches n s =
     touches-append (replicate (s - 1) (drawOf n)) (sboxShape n s (basisSize n))
     ∙ ap (λ l. l ++ touchesOf (sboxShape n s (basisSize n))) (draws-touches n (s - 1))
 
-module _ {n : ℕ} {qs ps : List (List ℕ)} (accepted : Accepted n qs ps) (s : ℕ) where
+module _ {n : ℕ} {qs ps : List (List ℕ)} (accepted : AcceptedForm n qs ps) (s : ℕ) where
   pub shaped-experiment : 0 < s → s ≤ 9 → (x : ℕ) → x < 2 ^ n
       → Shaped (λ c. (length c ≡ 9) × Sharing n s (formOf n qs ps x) c) (experimentShape n s) (experiment n s qs ps x)
   unfolding experiment experimentShape

@@ -18,12 +18,12 @@ use Rattle.steps.specs.Fill.{tabulate}
 use Rattle.steps.proofs.Fill.{length-tabulate, getD-tabulate}
 use Rattle.decomposition.specs.Layout.{termsOf, layout, sized}
 use Rattle.decomposition.specs.Form.{valueOf, form}
-use Rattle.decomposition.specs.Record as record-of
+use Rattle.decomposition.specs.Record.{Accepted}
 use Rattle.decomposition.specs.Record.{basisOf, solutionOf}
 use Rattle.decomposition.specs.Check.{recordForm}
 use Rattle.decomposition.proofs.Sizes.{known-width}
 use Rattle.sbox.specs.Sbox.{nth}
-use Rattle.sbox.specs.Form.{formOf, Coefficients, basisSize, Accepted}
+use Rattle.sbox.specs.Form.{formOf, Coefficients, basisSize, AcceptedForm}
 use Rattle.sbox.specs.Polynomials.{polynomialsOf, basisIn, solutionIn}
 
 -- ---- the polynomials of a list of coefficients
@@ -57,13 +57,12 @@ polynomials-small n m k l h i j = elim (decLt i k) [
 
 -- ---- an accepted record
 
-basis-size : (n : ℕ) → Width n → basisSize n ≡ termsOf n - 1
-unfolding basisSize termsOf
-basis-size n (inl e) = rw e refl
-basis-size n (inr e) = rw e refl
+basis-size : (n : ℕ) → basisSize n ≡ termsOf n - 1
+unfolding basisSize
+basis-size n = refl
 
 -- its coefficients are those of a form
-pub accepted-record : (n : ℕ) (r : List ℕ) → record-of.Accepted n r → Accepted n (basisIn n r) (solutionIn n r)
+pub accepted-record : (n : ℕ) (r : List ℕ) → Accepted n r → AcceptedForm n (basisIn n r) (solutionIn n r)
 unfolding basisIn solutionIn
 accepted-record n r a =
     let e = length (exponents n) in
@@ -99,7 +98,7 @@ record-form n w r x =
     let e = length (exponents n) in
     let k = basisSize n in
     let after = drop (6 + k * e) r in
-    rw (← basis-size n w, length-polynomials e k (drop 6 r))
+    rw (← basis-size n, length-polynomials e k (drop 6 r))
     (ap₂ _⊕_
     (sum-of-same k (λ i h. ap₂ (mul n)
     (ap (λ (c : List ℕ). value n c x) (nth-polynomials e (suc k) after i (omega arith)))

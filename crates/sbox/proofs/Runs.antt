@@ -11,13 +11,13 @@ use Rattle.steps.specs.Sharing.{Sharing}
 use Rattle.steps.proofs.Choices.{fits-small}
 use Rattle.steps.proofs.Shape.{shaped-result, shaped-steps, shaped-draws, shaped-products, shaped-rest}
 use Rattle.sbox.specs.Sbox.{sbox}
-use Rattle.sbox.specs.Form.{formOf, basisSize, Accepted}
+use Rattle.sbox.specs.Form.{formOf, basisSize, AcceptedForm}
 use Rattle.sbox.specs.Shape.{sboxShape}
 use Rattle.sbox.specs.Figures.{sboxProducts, sboxDraws, sboxSteps}
 use Rattle.sbox.proofs.Shape.{shaped-sbox}
 use Rattle.sbox.proofs.Counts.{sbox-steps, sbox-draws, sbox-products, sbox-bits}
 
-module _ {n : ℕ} {qs ps : List (List ℕ)} (accepted : Accepted n qs ps) (s x : ℕ) (a tape : List ℕ) (some : 0 < s) (nine : s ≤ 9)
+module _ {n : ℕ} {qs ps : List (List ℕ)} (accepted : AcceptedForm n qs ps) (s x : ℕ) (a tape : List ℕ) (some : 0 < s) (nine : s ≤ 9)
     (sharing : Sharing n s x a) (elements : Small n tape) where
   shaped : Shaped (λ c. (length c ≡ 9) × Sharing n s (formOf n qs ps x) c) (sboxShape n s (basisSize n)) (sbox n s qs ps a)
   shaped = rw (accepted .size) at (shaped-sbox (accepted .width) s x qs ps a some nine (accepted .coefficients) sharing)

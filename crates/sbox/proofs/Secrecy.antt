@@ -21,7 +21,7 @@ use Rattle.steps.proofs.Choices.{tally-all, total-bits}
 use Rattle.steps.proofs.Split.{split-trace}
 use Rattle.steps.proofs.Secrecy.{untouched-share, few-steps}
 use Rattle.sbox.specs.Sbox.{sbox}
-use Rattle.sbox.specs.Form.{formOf, basisSize, Accepted}
+use Rattle.sbox.specs.Form.{formOf, basisSize, AcceptedForm}
 use Rattle.sbox.specs.Shape.{sboxShape}
 use Rattle.sbox.specs.Figures.{sboxDraws}
 use Rattle.sbox.specs.Experiment.{experiment, experimentShape, choiceBits}
@@ -43,7 +43,7 @@ unfolding choices choiceBits watched equal
 all-choices n s qs ps x =
     tally-all (replicate (s - 1 + sboxDraws n s) n) ∙ ap (λ (b : ℕ). 2 ^ b) (total-bits n (s - 1 + sboxDraws n s))
 
-module _ {n : ℕ} {qs ps : List (List ℕ)} (accepted : Accepted n qs ps) (s : ℕ) where
+module _ {n : ℕ} {qs ps : List (List ℕ)} (accepted : AcceptedForm n qs ps) (s : ℕ) where
   -- The experiment draws the elements of a choice, and no other.
   pub experiment-draws : 0 < s → s ≤ 9 → (x : ℕ) → x < 2 ^ n → (tape : List ℕ) → Fits (choiceBits n s) tape
       → draws (experiment n s qs ps x) tape ≡ choiceBits n s

@@ -12,6 +12,7 @@ use Rattle.field.specs.Mul.{Width}
 use Rattle.field.specs.Polynomial.{exponents}
 use Rattle.field.proofs.Polynomial.{length-exponents-4, length-exponents-6}
 use Rattle.steps.specs.Sharing.{share}
+use Rattle.decomposition.specs.Layout.{termsOf}
 use Rattle.sbox.specs.Sbox.{nth, sbox}
 use Rattle.sbox.specs.Form.{basisSize}
 use Rattle.sbox.specs.Polynomials.{polynomialsOf, basisIn, solutionIn}
@@ -44,7 +45,7 @@ record Sizes (n k h : ℕ) : Type 0 where
   made : cond (eqb n 6) (3 * n) (2 * n) ≡ k
 
 sizes : (n k h : ℕ) → Width n → length (exponents n) ≡ k + 1 → basisSize n ≡ h → Sizes n k h
-unfolding basisSize
+unfolding basisSize termsOf
 sizes n k h (inl e) ek eh =
     let p = rw e at ek in
     let q = rw e at eh in

@@ -17,7 +17,7 @@ use Rattle.decomposition.proofs.ReadOutcome.{read-accepted}
 use Rattle.decomposition.proofs.Sizes.{layout-width}
 use Rattle.decomposition.proofs.Theorems.{check-computes}
 use Rattle.sbox.specs.Sbox.{sbox}
-use Rattle.sbox.specs.Form.{basisSize, Accepted}
+use Rattle.sbox.specs.Form.{basisSize, AcceptedForm}
 use Rattle.sbox.specs.Shape.{sboxShape}
 use Rattle.sbox.specs.Experiment.{experiment, choiceBits}
 use Rattle.sbox.specs.Polynomials.{basisIn, solutionIn}
@@ -26,7 +26,7 @@ use Rattle.sbox.proofs.Secrecy.{sbox-few-steps, sbox-untouched-share}
 use Rattle.sbox.proofs.Record.{accepted-record, record-form}
 
 module _ (n : ℕ) (r : List ℕ) (accepted : readOutcome r ≡ done (n ∷ [])) (s : ℕ) where
-  coefficients : Accepted n (basisIn n r) (solutionIn n r)
+  coefficients : AcceptedForm n (basisIn n r) (solutionIn n r)
   coefficients = accepted-record n r (read-accepted r n accepted)
 
   -- THE JOINED RESULT. For every sharing of x and all random elements the shares of the result join to the record's form at x.

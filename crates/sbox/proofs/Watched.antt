@@ -11,7 +11,8 @@ use Rattle.steps.specs.Watch.{watched}
 use Rattle.steps.specs.Tape.{elements}
 use Rattle.sbox.specs.Polynomials.{basisIn, solutionIn}
 use Rattle.sbox.specs.Experiment.{experiment}
-use Rattle.sbox.specs.Operations.{widthOf, callProgram, watchOutput}
+use Rattle.decomposition.specs.Record.{widthOf}
+use Rattle.sbox.specs.Operations.{callProgram, watchOutput}
 use Rattle.sbox.proofs.Secrecy.{experiment-steps}
 
 pub watch-shows : (r : List ℕ) (s x : ℕ) (masks random list : List ℕ) → length masks ≡ s - 1

@@ -11,6 +11,7 @@ use Rattle.steps.specs.declared.counts.Counts.{Counts}
 use Rattle.steps.specs.Tape.{elements}
 use Rattle.steps.specs.Machine.{Ready, Went}
 use Rattle.steps.specs.Loop.{each}
+use Rattle.decomposition.specs.Layout.{termsOf}
 use Rattle.sbox.specs.Sbox.{sbox}
 use Rattle.sbox.specs.Form.{basisSize}
 use Rattle.sbox.specs.Figures.{sboxProducts, sboxDraws, sboxSteps}
@@ -28,11 +29,11 @@ pub record Sized (n k h : ℕ) : Type 0 where
   pub taken : (s : ℕ) → Taken n k h s
 
 pub sized-4 : Sized 4 8 1
-unfolding basisSize
+unfolding basisSize termsOf
 sized-4 = record { width = inl refl; listed = length-exponents-4; based = refl; taken = taken-4 }
 
 pub sized-6 : Sized 6 18 3
-unfolding basisSize
+unfolding basisSize termsOf
 sized-6 = record { width = inr refl; listed = length-exponents-6; based = refl; taken = taken-6 }
 
 -- w is the width n

@@ -1,14 +1,13 @@
 -- What the masked S-box computes: the form p1 · q1 + .. + p(t-1) · q(t-1) + pt at the joined input.
 use mathlib.Core.Path.{_≡_}
-use mathlib.Core.Bool.{cond}
 use mathlib.Core.List.{List}
-use Prim.Native.Nat.{ℕ, suc}
-use lib.Dec.{eqb}
+use Prim.Native.Nat.{ℕ, suc, _-_}
 use lib.ListN.{length}
 use Rattle.xor.specs.Xor.{_⊕_}
 use Rattle.xor.specs.Sum.{sumOf, Small}
 use Rattle.field.specs.Mul.{Width, mul}
 use Rattle.field.specs.Polynomial.{value}
+use Rattle.decomposition.specs.Layout.{termsOf}
 use Rattle.sbox.specs.Sbox.{nth}
 
 -- the form at x: qs has the coefficients of the basis q1 to q(t-1), ps those of p1 to pt
@@ -27,10 +26,10 @@ pub record Coefficients (n : ℕ) (qs ps : List (List ℕ)) : Type 0 where
 
 -- t - 1, the number of polynomials in the basis, by width
 unfoldable pub basisSize : ℕ → ℕ
-basisSize n = cond (eqb n 4) 1 3
+basisSize n = termsOf n - 1
 
 -- qs and ps are what an accepted record gives: the coefficients of a form of t terms, at a width of the library
-pub record Accepted (n : ℕ) (qs ps : List (List ℕ)) : Type 0 where
+pub record AcceptedForm (n : ℕ) (qs ps : List (List ℕ)) : Type 0 where
   pub width : Width n
   pub size : length qs ≡ basisSize n
   pub coefficients : Coefficients n qs ps

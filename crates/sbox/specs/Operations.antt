@@ -4,7 +4,7 @@ use mathlib.Core.Bool.{Bool, _&&_}
 use mathlib.Core.List.{List, [], _∷_, _++_}
 use Prim.Native.Nat.{ℕ, _^_, _≤_, _<_}
 use lib.Dec.{leb, eqb}
-use lib.ListN.{length, getD}
+use lib.ListN.{length}
 use Rattle.refusal.specs.Outcome.{Outcome, done, refused, test, andThen}
 use Rattle.refusal.specs.Range.{oneTo}
 use Rattle.refusal.specs.Large.{firstLarge, testBelow}
@@ -13,7 +13,7 @@ use Rattle.steps.specs.Watch.{watched}
 use Rattle.steps.specs.Sharing.{share}
 use Rattle.steps.specs.Fill.{tabulate}
 use Rattle.steps.specs.Tape.{elements, bytesFor}
-use Rattle.decomposition.specs.Record.{readOutcome, Accepted}
+use Rattle.decomposition.specs.Record.{widthOf, readOutcome, Accepted}
 use Rattle.sbox.specs.Sbox.{sbox}
 use Rattle.sbox.specs.Figures.{sboxDraws, sboxSteps}
 use Rattle.sbox.specs.Polynomials.{basisIn, solutionIn}
@@ -25,10 +25,6 @@ use Rattle.sbox.specs.declared.watching.WatchAnswer.{WatchAnswer}
 use Rattle.sbox.specs.declared.watching.WatchAnswer.the-variants.{Done as Watch·Done, Refused as Watch·Refused}
 
 -- ---- the steps of a call
-
--- the width that a record names
-abbrev pub widthOf : List ℕ → ℕ
-widthOf r = getD r 5 0
 
 -- the masked S-box of the shares by the record's polynomials
 unfoldable pub callProgram : List ℕ → ℕ → List ℕ → Run (List ℕ)

@@ -5,10 +5,10 @@ use mathlib.Core.List.{[], _∷_}
 use Rattle.refusal.specs.Outcome.{done, test}
 use Rattle.refusal.proofs.Outcome.{passed}
 use Rattle.decomposition.specs.Layout.{layout}
-use Rattle.decomposition.specs.Record.{readOutcome}
+use Rattle.decomposition.specs.Record.{widthOf, readOutcome}
 use Rattle.decomposition.specs.Check.{recordForm, firstDifference, checkReport}
 use Rattle.decomposition.proofs.ReadOutcome.{read-accepted}
-use Rattle.sbox.specs.Operations.{widthOf}
+use Rattle.sbox.specs.Operations.{}
 use Rattle.present.specs.Present.{table}
 use Rattle.cipher.specs.Operations.{computesTable, recordTests}
 use Rattle.cipher.proofs.Calls.{check-tests, last-fails}

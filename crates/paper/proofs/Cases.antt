@@ -3,6 +3,7 @@ use mathlib.Core.Path.{_≡_, refl}
 use mathlib.Core.List.{List, map, flatten}
 use Prim.Native.Nat.{ℕ}
 use Rattle.field.specs.Polynomial.{classes, exponents, combination, value}
+use Rattle.decomposition.specs.Layout.{termsOf}
 use Rattle.decomposition.specs.Fit.{houseBasis}
 use Rattle.field.proofs.Inverses.{products}
 use Rattle.xor.specs.Sum.{join}
@@ -22,7 +23,7 @@ use Rattle.paper.specs.Cases.{Case, table, Checks}
 rows : map (λ (c : Case). c .given) table ≡ map (λ (c : Case). c .said) table
 unfolding table houseBasis products classes flatten exponents combination value join
     _>>=_ _>>_ note random loop for first later result start pair row product tabulate column maskedByte splitShares
-    touchesOf loopShape forShape pairShape rowShape productShape basisSize times squareShape thirdShape powersShape termShape polynomialShape totalShape sboxShape
+    touchesOf loopShape forShape pairShape rowShape productShape termsOf basisSize times squareShape thirdShape powersShape termShape polynomialShape totalShape sboxShape
     turns iterate nibble replace onNibble present.table substitute place rotate onTopNibbles roundNumber updateKey
 rows = refl
 

@@ -57,29 +57,19 @@ fn copy(from: &[u8], to: &mut [u8])
     }
 }
 
-// The sharing that lies in a slice.
-fn sharing(from: &[u8]) -> [u8; 9]
-    requires { ⌜ length (now from) ≡ 9 ⌝ }
-    ensures { λ r. ⌜ r ≡ now (from .entry) ⌝ }
-{
-    let mut x = [0u8; 9];
-    copy(from, &mut x);
-    x
-}
-
-// The masked product of x and y, of s shares, from the start of a run and with an empty watch list.
-fn shares(width: u32, s: usize, x: &[u8; 9], y: &[u8; 9], random: &[u8]) -> [u8; 9]
+// The masked product of a and b, of s shares, from the start of a run and with an empty watch list.
+fn shares(width: u32, s: usize, a: &[u8], b: &[u8], random: &[u8]) -> [u8; 9]
     requires { ⌜ Width width ⌝ }
-    requires { ⌜ s ≤ 9 ⌝ }
+    requires { ⌜ (s ≤ 9) × (9 ≤ length (now a)) × (9 ≤ length (now b)) ⌝ }
     requires { ⌜ Ready 1 (eachPair 1 s 0) (each 1 s 0 + eachPair 7 s 0) zeroCounts (elements width (now random)) [] [] ⌝ }
-    ensures { λ r. ⌜ r ≡ result (product width s (now (x .entry)) (now (y .entry))) (elements width (now (random .entry))) ⌝ }
+    ensures { λ r. ⌜ r ≡ result (product width s (now (a .entry)) (now (b .entry))) (elements width (now (random .entry))) ⌝ }
 {
     let n = Counts {
         products: 0,
         random: 0,
         steps: 0,
     };
-    let m = product::product(width, s, x, y, random, &[], &mut [], n);
+    let m = product::product(width, s, a, b, random, &[], &mut [], n);
     m.shares
 }
 
@@ -98,9 +88,7 @@ pub extern "C" fn bench_product(
 {
     let count = s as usize;
     if fits(width, count, a.len(), b.len(), random.len(), out.len()) {
-        let x = sharing(a);
-        let y = sharing(b);
-        let c = shares(width, count, &x, &y, random);
+        let c = shares(width, count, a, b, random);
         copy(&c, out);
     }
 }

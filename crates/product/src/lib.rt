@@ -1,5 +1,6 @@
-// The masked product of two sharings. A sharing is held in nine bytes, 0 past the shares in use.
+// The masked product of two sharings. A sharing is held in nine bytes, 0 past the shares in use; of a longer slice only these count.
 ghost use Prim.Native.Nat.{_+_, _<_, _≤_};
+ghost use lib.ListN.{length};
 ghost use Rattle.field.specs.Mul.{Width};
 ghost use Rattle.steps.specs.Program.{for};
 ghost use Rattle.steps.specs.Tape.{elements};
@@ -18,8 +19,8 @@ pub struct Masked {
 // The seven steps of the pair of shares i and j.
 fn pair(
     width: u32,
-    a: &[u8; 9],
-    b: &[u8; 9],
+    a: &[u8],
+    b: &[u8],
     i: usize,
     j: usize,
     random: &[u8],
@@ -29,7 +30,7 @@ fn pair(
     n: Counts,
 ) -> Counts
     requires { ⌜ Width width ⌝ }
-    requires { ⌜ (i < 9) × (j < 9) ⌝ }
+    requires { ⌜ (i < 9) × (j < 9) × (9 ≤ length (now a)) × (9 ≤ length (now b)) ⌝ }
     requires { ⌜ Ready 0 1 7 n (elements width (now random)) (now watch) (now values) ⌝ }
     ensures { λ r. ⌜ Went 0 1 7 (elements width (now (random .entry))) (now (watch .entry))
         (spec.pair width (now (a .entry)) (now (b .entry)) i j (now (c .entry)))
@@ -58,8 +59,8 @@ fn pair(
 fn row(
     width: u32,
     s: usize,
-    a: &[u8; 9],
-    b: &[u8; 9],
+    a: &[u8],
+    b: &[u8],
     i: usize,
     random: &[u8],
     watch: &[u32],
@@ -68,7 +69,7 @@ fn row(
     n: Counts,
 ) -> Counts
     requires { ⌜ Width width ⌝ }
-    requires { ⌜ (i < s) × (s ≤ 9) ⌝ }
+    requires { ⌜ (i < s) × (s ≤ 9) × (9 ≤ length (now a)) × (9 ≤ length (now b)) ⌝ }
     requires { ⌜ Ready 0 (each 1 s (i + 1)) (each 7 s (i + 1)) n (elements width (now random)) (now watch) (now values) ⌝ }
     ensures { λ r. ⌜ Went 0 (each 1 s (i + 1)) (each 7 s (i + 1)) (elements width (now (random .entry))) (now (watch .entry))
         (spec.row width s (now (a .entry)) (now (b .entry)) i (now (c .entry)))
@@ -87,8 +88,8 @@ fn row(
 fn rows(
     width: u32,
     s: usize,
-    a: &[u8; 9],
-    b: &[u8; 9],
+    a: &[u8],
+    b: &[u8],
     random: &[u8],
     watch: &[u32],
     values: &mut [u8],
@@ -96,7 +97,7 @@ fn rows(
     n: Counts,
 ) -> Counts
     requires { ⌜ Width width ⌝ }
-    requires { ⌜ s ≤ 9 ⌝ }
+    requires { ⌜ (s ≤ 9) × (9 ≤ length (now a)) × (9 ≤ length (now b)) ⌝ }
     requires { ⌜ Ready 0 (eachPair 1 s 0) (eachPair 7 s 0) n (elements width (now random)) (now watch) (now values) ⌝ }
     ensures { λ r. ⌜ Went 0 (eachPair 1 s 0) (eachPair 7 s 0) (elements width (now (random .entry))) (now (watch .entry))
         (for 0 s (spec.row width s (now (a .entry)) (now (b .entry))) (now (c .entry)))
@@ -114,8 +115,8 @@ fn rows(
 // The product of share i of a and share i of b.
 fn start(
     width: u32,
-    a: &[u8; 9],
-    b: &[u8; 9],
+    a: &[u8],
+    b: &[u8],
     i: usize,
     random: &[u8],
     watch: &[u32],
@@ -124,7 +125,7 @@ fn start(
     n: Counts,
 ) -> Counts
     requires { ⌜ Width width ⌝ }
-    requires { ⌜ i < 9 ⌝ }
+    requires { ⌜ (i < 9) × (9 ≤ length (now a)) × (9 ≤ length (now b)) ⌝ }
     requires { ⌜ Ready 0 0 1 n (elements width (now random)) (now watch) (now values) ⌝ }
     ensures { λ r. ⌜ Went 0 0 1 (elements width (now (random .entry))) (now (watch .entry))
         (spec.start width (now (a .entry)) (now (b .entry)) i (now (c .entry)))
@@ -144,8 +145,8 @@ fn start(
 fn starts(
     width: u32,
     s: usize,
-    a: &[u8; 9],
-    b: &[u8; 9],
+    a: &[u8],
+    b: &[u8],
     random: &[u8],
     watch: &[u32],
     values: &mut [u8],
@@ -153,7 +154,7 @@ fn starts(
     n: Counts,
 ) -> Counts
     requires { ⌜ Width width ⌝ }
-    requires { ⌜ s ≤ 9 ⌝ }
+    requires { ⌜ (s ≤ 9) × (9 ≤ length (now a)) × (9 ≤ length (now b)) ⌝ }
     requires { ⌜ Ready 0 0 (each 1 s 0) n (elements width (now random)) (now watch) (now values) ⌝ }
     ensures { λ r. ⌜ Went 0 0 (each 1 s 0) (elements width (now (random .entry))) (now (watch .entry))
         (for 0 s (spec.start width (now (a .entry)) (now (b .entry))) (now (c .entry)))
@@ -172,15 +173,15 @@ fn starts(
 fn multiply(
     width: u32,
     s: usize,
-    a: &[u8; 9],
-    b: &[u8; 9],
+    a: &[u8],
+    b: &[u8],
     random: &[u8],
     watch: &[u32],
     values: &mut [u8],
     n: Counts,
 ) -> Masked
     requires { ⌜ Width width ⌝ }
-    requires { ⌜ s ≤ 9 ⌝ }
+    requires { ⌜ (s ≤ 9) × (9 ≤ length (now a)) × (9 ≤ length (now b)) ⌝ }
     requires { ⌜ Ready 1 (eachPair 1 s 0) (each 1 s 0 + eachPair 7 s 0) n (elements width (now random)) (now watch) (now values) ⌝ }
     ensures { λ r. ⌜ Went 1 (eachPair 1 s 0) (each 1 s 0 + eachPair 7 s 0) (elements width (now (random .entry))) (now (watch .entry))
         (spec.product width s (now (a .entry)) (now (b .entry)))
@@ -206,15 +207,15 @@ fn multiply(
 pub fn product(
     width: u32,
     s: usize,
-    a: &[u8; 9],
-    b: &[u8; 9],
+    a: &[u8],
+    b: &[u8],
     random: &[u8],
     watch: &[u32],
     values: &mut [u8],
     n: Counts,
 ) -> Masked
     requires { ⌜ Width width ⌝ }
-    requires { ⌜ s ≤ 9 ⌝ }
+    requires { ⌜ (s ≤ 9) × (9 ≤ length (now a)) × (9 ≤ length (now b)) ⌝ }
     requires { ⌜ Ready 1 (eachPair 1 s 0) (each 1 s 0 + eachPair 7 s 0) n (elements width (now random)) (now watch) (now values) ⌝ }
     ensures { λ r. ⌜ Went 1 (eachPair 1 s 0) (each 1 s 0 + eachPair 7 s 0) (elements width (now (random .entry))) (now (watch .entry))
         (spec.product width s (now (a .entry)) (now (b .entry)))

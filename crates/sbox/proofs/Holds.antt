@@ -6,9 +6,8 @@ use Prim.Native.Nat.{ℕ, zero, suc, _+_, _*_, _≤_, _<_}
 use native.Mathlib.Decide.{ℕ-discrete}
 use native.Mathlib.Omega.{arith}
 use lib.ListN.{length, getD, set, take, replicate, length-set, length-replicate}
-use lib.Seq.{getD-set-same, getD-set-other, getD-at, getD-take}
+use lib.Seq.{getD-set-same, getD-set-other, getD-at, getD-take, getD-drop}
 use Rattle.steps.specs.Sharing.{share}
-use Rattle.steps.proofs.Fill.{getD-tabulate}
 use Rattle.steps.proofs.Sharing.{share-zeros}
 use Rattle.sbox.specs.Sbox.{nth}
 use Rattle.sbox.specs.Table.{cell, setCell, row, put}
@@ -43,9 +42,9 @@ pub holds-none : {s : ℕ} → Holds s (replicate 252 0) []
 unfolding cell
 holds-none = record { size = length-replicate {A = ℕ} 252 0; cells = λ r i h. share-zeros 252 (9 * r + i) }
 
-pub holds-row : {s : ℕ} {t : List ℕ} {l : List (List ℕ)} → s ≤ 9 → Holds s t l → (r i : ℕ) → i < s → share (row t r) i ≡ share (nth l r) i
-unfolding row
-holds-row {t = t} nine h r i k = getD-tabulate 9 (cell t r) i 0 (omega arith) ∙ h .cells r i k
+pub holds-row : {s : ℕ} {t : List ℕ} {l : List (List ℕ)} → Holds s t l → (r i : ℕ) → i < s → share (row t r) i ≡ share (nth l r) i
+unfolding cell
+holds-row {t = t} h r i k = getD-drop (9 * r) t i 0 ∙ h .cells r i k
 
 -- a list whose sharings have the same shares
 holds-same : {s : ℕ} {t : List ℕ} {l m : List (List ℕ)} → ((r i : ℕ) → i < s → share (nth l r) i ≡ share (nth m r) i) → Holds s t l → Holds s t m

@@ -97,7 +97,7 @@ module _ (n s : ℕ) (nine : s ≤ 9) where
       → Lockstep (λ t′ c. Holds s t′ (l ++ (c ∷ []))) (multiplyRows n s x y (length l) t) (product n s (nth l x) (nth l y))
   unfolding multiplyRows
   lockstep-multiply {t} l x y hl h =
-      rw (product-same n s (table.row t x) (nth l x) (table.row t y) (nth l y) (holds-row nine h x) (holds-row nine h y))
+      rw (product-same n s (table.row t x) (nth l x) (table.row t y) (nth l y) (holds-row h x) (holds-row h y))
       (lockstep-left (product n s (nth l x) (nth l y)) (put s t (length l)) (λ c. holds-put l c nine hl h))
 
   -- ---- the powers

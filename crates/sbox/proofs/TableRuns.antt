@@ -1,12 +1,13 @@
 -- What the parts of the code's program come to on the machine, and the turn of the loop that puts a row.
 use mathlib.Core.Path.{_≡_, refl}
 use mathlib.Core.List.{List, [], _∷_}
-use Prim.Native.Nat.{ℕ, zero, suc, _+_, _*_, _≤_, _<_}
+use Prim.Native.Nat.{ℕ, zero, suc, _+_, _-_, _*_, _≤_, _<_}
 use native.Mathlib.Nat.{mul-le-mul-right, suc-mul}
 use native.Mathlib.Numerals.{add-one}
 use native.Mathlib.Omega.{arith}
 use lib.Bits.{bitXor}
-use lib.ListN.{getD, set}
+use lib.ListN.{length, getD, take, drop, set, length-drop}
+use lib.Seq.{take-all}
 use Rattle.xor.specs.Xor.{_⊕_}
 use Rattle.field.specs.Mul.{mul}
 use Rattle.steps.specs.declared.counts.Counts.{Counts}
@@ -60,6 +61,14 @@ module _ (tape watch : List ℕ) where
   unfolding multiplyRows
   multiply-runs w s x y z t n vs ea eb e et =
       then-runs tape watch (product w s (row t x) (row t y)) (λ c. done (put s t z c)) n vs (rw (ea, eb) at e) (done-runs tape watch _ _ et)
+
+-- a row as a part of the table, lent up to its end
+pub row-part : (t : List ℕ) (r : ℕ) → take (length t - 9 * r) (drop (9 * r) t) ≡ row t r
+row-part t r = take-all (length t - 9 * r) (drop (9 * r) t) (omega (arith, length-drop (9 * r) t))
+
+-- it has nine places
+pub row-long : (t : List ℕ) (r : ℕ) → 9 * r + 9 ≤ length t → 9 ≤ length (take (length t - 9 * r) (drop (9 * r) t))
+row-long t r h = rw (row-part t r, length-drop (9 * r) t) (omega arith)
 
 -- one more share of a row that is put
 pub put-turn : (k : ℕ) (t₀ : List ℕ) (r : ℕ) (c t : List ℕ) → t ≡ put k t₀ r c → set t (9 * r + k) (getD c k 0) ≡ put (k + 1) t₀ r c

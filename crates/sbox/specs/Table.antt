@@ -1,8 +1,7 @@
 -- The table that the code of the S-box works on: sharings of nine places each, row after row, in one list.
 use mathlib.Core.List.{List}
 use Prim.Native.Nat.{ℕ, zero, suc, _+_, _*_}
-use lib.ListN.{getD, set}
-use Rattle.steps.specs.Fill.{tabulate}
+use lib.ListN.{getD, drop, set}
 use Rattle.steps.specs.Sharing.{share}
 
 -- share i of row r
@@ -13,9 +12,9 @@ cell t r i = getD t (9 * r + i) 0
 unfoldable pub setCell : List ℕ → ℕ → ℕ → ℕ → List ℕ
 setCell t r i v = set t (9 * r + i) v
 
--- row r
-unfoldable pub row : List ℕ → ℕ → List ℕ
-row t r = tabulate 9 (cell t r)
+-- row r: the table from there on, of which the first nine places count
+abbrev pub row : List ℕ → ℕ → List ℕ
+row t r = drop (9 * r) t
 
 -- the table with the first s shares of c in row r
 unfoldable pub put : ℕ → List ℕ → ℕ → List ℕ → List ℕ

@@ -25,20 +25,6 @@ pub fn put(t: &mut [u8; 252], s: usize, r: usize, c: &[u8; 9])
     }
 }
 
-// Row r.
-pub fn row(t: &[u8; 252], r: usize) -> [u8; 9]
-    requires { ⌜ r < 28 ⌝ }
-    ensures { λ c. ⌜ c ≡ table.row (now (t .entry)) r ⌝ }
-{
-    let mut c = [0u8; 9];
-    let mut i = 0;
-    while i < 9 {
-        c[i] = t[9 * r + i];
-        i += 1;
-    }
-    c
-}
-
 // The masked product of rows x and y goes to row z.
 pub fn multiply_rows(
     width: u32,
@@ -59,9 +45,10 @@ pub fn multiply_rows(
         (spec.multiplyRows width s x y z (now (t .entry)))
         n (now (values .entry)) (now (t .exit)) w (now (values .exit)) ⌝ }
 {
-    let a = row(&*t, x);
-    let b = row(&*t, y);
-    let m = product(width, s, &a, &b, random, watch, values, n);
+    let a = 9 * x;
+    let b = 9 * y;
+    let rows = &t[..];
+    let m = product(width, s, &rows[a..], &rows[b..], random, watch, values, n);
     let c = m.shares;
     put(t, s, z, &c);
     m.counts

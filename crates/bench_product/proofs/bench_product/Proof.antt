@@ -1,6 +1,7 @@
 -- `bench_product` meets its contract: where the arguments fit, the shares of the product are written.
 use mathlib.Core.Bool.{true}
 use mathlib.Core.Path.{_≡_, sym, _∙_}
+use native.Mathlib.Omega.{arith}
 use borrow.Author.Needs.{needs}
 use lib.ListN.{length}
 use Rattle.bench_product.specs.Output.{fits, output}
@@ -16,22 +17,16 @@ fitted : (c : tie.Then1) → let a = c .before .before .before .before .before .
     fits (a .width) (a .s) (length (a .a .now)) (length (a .b .now)) (length (a .random .now)) (length (a .out .now)) ≡ true
 fitted c = sym (c .before .fits2 .ensures) ∙ c .if1 .taken
 
-sharing-requires : tie.Need-sharing-requires
-sharing-requires c κs = fits-means _ _ _ _ _ _ (fitted c) .nine-a
-
-sharing-requires-2 : tie.Need-sharing-requires-2
-sharing-requires-2 c κs = fits-means _ _ _ _ _ _ (fitted (c .before)) .nine-b
-
 shares-requires : tie.Need-shares-requires
 shares-requires c κs =
-    let f = fits-means _ _ _ _ _ _ (fitted (c .before .before .before .before)) in
-    (f .width-is, (f .few, ready _ _ _ _ _ _ f))
+    let f = fits-means _ _ _ _ _ _ (fitted c) in
+    (f .width-is, ((f .few, omega (arith, f .nine-a), omega (arith, f .nine-b)), ready _ _ _ _ _ _ f))
 
 slice-aggregate-copy : tie.Need-slice-aggregate-copy
 slice-aggregate-copy c = search needs
 
 copy-requires : tie.Need-copy-requires
-copy-requires c κs = (search needs, fits-means _ _ _ _ _ _ (fitted (c .before .before .before .before .before .before .before)) .nine-out)
+copy-requires c κs = (search needs, fits-means _ _ _ _ _ _ (fitted (c .before .before .before)) .nine-out)
 
 same-length : tie.Need-same-length
 same-length c = search needs
@@ -40,9 +35,7 @@ returns : tie.Need-returns
 unfolding output
 returns c =
     let r = c .before .before .before .before .before in
-    rw (fitted (r .before .before .before .before .before))
-    (c .before .before .copy .ensures
-    ∙ rw (← r .before .before .before .sharing2 .ensures, ← r .before .before .before .before .sharing .ensures) (r .shares .ensures))
+    rw (fitted (r .before)) (c .before .before .copy .ensures ∙ r .shares .ensures)
 
 returns-2 : tie.Need-returns-2
 unfolding output
@@ -53,8 +46,6 @@ bench-product-spec =
     tie.close
     (tie.spec
     fits-requires
-    sharing-requires
-    sharing-requires-2
     shares-requires
     slice-aggregate-copy
     copy-requires

@@ -8,20 +8,20 @@ use Rattle.product.proofs.pair.Tie as tie
 draw-requires : tie.Need-draw-requires
 draw-requires c κs = search needs
 
-element-copy-out-double-and-add : tie.Need-element-copy-out-double-and-add
-element-copy-out-double-and-add c = search needs
+shared-slice-read-double-and-add : tie.Need-shared-slice-read-double-and-add
+shared-slice-read-double-and-add c = search needs
 
-element-copy-out-double-and-add-2 : tie.Need-element-copy-out-double-and-add-2
-element-copy-out-double-and-add-2 c = search needs
+shared-slice-read-double-and-add-2 : tie.Need-shared-slice-read-double-and-add-2
+shared-slice-read-double-and-add-2 c = search needs
 
 double-and-add-requires : tie.Need-double-and-add-requires
 double-and-add-requires c κs = search needs
 
-element-copy-out-double-and-add-3 : tie.Need-element-copy-out-double-and-add-3
-element-copy-out-double-and-add-3 c = search needs
+shared-slice-read-double-and-add-3 : tie.Need-shared-slice-read-double-and-add-3
+shared-slice-read-double-and-add-3 c = search needs
 
-element-copy-out-double-and-add-4 : tie.Need-element-copy-out-double-and-add-4
-element-copy-out-double-and-add-4 c = search needs
+shared-slice-read-double-and-add-4 : tie.Need-shared-slice-read-double-and-add-4
+shared-slice-read-double-and-add-4 c = search needs
 
 double-and-add-requires-2 : tie.Need-double-and-add-requires-2
 double-and-add-requires-2 c κs = search needs
@@ -64,11 +64,11 @@ pair-spec =
     tie.close
     (tie.spec
     draw-requires
-    element-copy-out-double-and-add
-    element-copy-out-double-and-add-2
+    shared-slice-read-double-and-add
+    shared-slice-read-double-and-add-2
     double-and-add-requires
-    element-copy-out-double-and-add-3
-    element-copy-out-double-and-add-4
+    shared-slice-read-double-and-add-3
+    shared-slice-read-double-and-add-4
     double-and-add-requires-2
     element-copy-out-u
     element-copy-out-v

@@ -27,7 +27,7 @@ loop-holds c = search going
 pair-requires : tie.Need-pair-requires Inv-loop μ-loop
 pair-requires c κs =
     let h = c .before .before .loop-test .taken in
-    (search needs, (omega arith, going-ready (c .before .before .before .loop .inv) (search needs) refl (each-turn 1 h) (each-turn 7 h)))
+    (search needs, (search needs, going-ready (c .before .before .before .loop .inv) (search needs) refl (each-turn 1 h) (each-turn 7 h)))
 
 add-j-2 : tie.Need-add-j-2 Inv-loop μ-loop
 add-j-2 c = search needs

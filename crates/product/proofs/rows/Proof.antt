@@ -26,7 +26,7 @@ loop-holds c = search going
 row-requires : tie.Need-row-requires Inv-loop μ-loop
 row-requires c κs =
     let h = c .before .before .loop-test .taken in
-    (search needs, (omega arith, going-ready (c .before .before .before .loop .inv) (search needs) refl (pairs-turn 1 h) (pairs-turn 7 h)))
+    (search needs, (search needs, going-ready (c .before .before .before .loop .inv) (search needs) refl (pairs-turn 1 h) (pairs-turn 7 h)))
 
 add-i : tie.Need-add-i Inv-loop μ-loop
 add-i c = search needs

@@ -4,11 +4,11 @@ use Rattle.product.proofs.Runs.{start-runs}
 use Rattle.product.proofs.start.Statement.{statement}
 use Rattle.product.proofs.start.Tie as tie
 
-element-copy-out-double-and-add : tie.Need-element-copy-out-double-and-add
-element-copy-out-double-and-add c = search needs
+shared-slice-read-double-and-add : tie.Need-shared-slice-read-double-and-add
+shared-slice-read-double-and-add c = search needs
 
-element-copy-out-double-and-add-2 : tie.Need-element-copy-out-double-and-add-2
-element-copy-out-double-and-add-2 c = search needs
+shared-slice-read-double-and-add-2 : tie.Need-shared-slice-read-double-and-add-2
+shared-slice-read-double-and-add-2 c = search needs
 
 double-and-add-requires : tie.Need-double-and-add-requires
 double-and-add-requires c κs = search needs
@@ -30,8 +30,8 @@ pub start-spec : {M : Type 1} → statement M
 start-spec =
     tie.close
     (tie.spec
-    element-copy-out-double-and-add
-    element-copy-out-double-and-add-2
+    shared-slice-read-double-and-add
+    shared-slice-read-double-and-add-2
     double-and-add-requires
     record-requires
     element-write-c

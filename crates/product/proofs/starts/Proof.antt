@@ -24,7 +24,7 @@ loop-holds c = search going
 start-requires : tie.Need-start-requires Inv-loop μ-loop
 start-requires c κs =
     let h = c .before .before .loop-test .taken in
-    (search needs, (omega arith, going-ready (c .before .before .before .loop .inv) (search needs) refl refl (each-turn 1 h)))
+    (search needs, (search needs, going-ready (c .before .before .before .loop .inv) (search needs) refl refl (each-turn 1 h)))
 
 add-i : tie.Need-add-i Inv-loop μ-loop
 add-i c = search needs

@@ -1,17 +1,38 @@
 -- `multiply_rows` meets its contract: the product of two rows, put into a third.
+use native.Mathlib.Omega.{arith}
 use borrow.Author.Needs.{needs}
-use Rattle.sbox.proofs.TableRuns.{multiply-runs}
+use Rattle.sbox.proofs.TableRuns.{multiply-runs, row-part, row-long}
 use Rattle.sbox.proofs.rows.multiply_rows.Statement.{statement}
 use Rattle.sbox.proofs.rows.multiply_rows.Tie as tie
 
-row-requires : tie.Need-row-requires
-row-requires c κs = search needs
+mul-a : tie.Need-mul-a
+mul-a c = search needs
 
-row-requires-2 : tie.Need-row-requires-2
-row-requires-2 c κs = search needs
+mul-b : tie.Need-mul-b
+mul-b c = search needs
+
+sub-product : tie.Need-sub-product
+sub-product c = search needs
+
+part-product-start : tie.Need-part-product-start
+part-product-start c = search needs
+
+part-product-end : tie.Need-part-product-end
+part-product-end c = search needs
+
+sub-product-2 : tie.Need-sub-product-2
+sub-product-2 c = search needs
+
+part-product-start-2 : tie.Need-part-product-start-2
+part-product-start-2 c = search needs
+
+part-product-end-2 : tie.Need-part-product-end-2
+part-product-end-2 c = search needs
 
 product-requires : tie.Need-product-requires
-product-requires c κs = search needs
+product-requires c κs =
+    let a = c .before .before .before .before .before .before .before .before .args in
+    (search needs, ((search needs, row-long (a .t .now) (a .x) (omega arith), row-long (a .t .now) (a .y) (omega arith)), search needs))
 
 put-requires : tie.Need-put-requires
 put-requires c κs = search needs
@@ -21,9 +42,11 @@ same-length c = search needs
 
 returns : tie.Need-returns
 returns c =
-    record { runs = search (needs, multiply-runs); took-products = search needs; took-draws = search needs; took-steps = search needs }
+    let a = c .before .before .before .before .before .before .before .before .before .before .before .before .before .before .before .before .args in
+    let w = c .before .before .before .before .before .before .before .product in
+    record { runs = multiply-runs _ _ _ _ _ _ _ _ _ _ (row-part (a .t .now) (a .x)) (row-part (a .t .now) (a .y)) (w .ensures .runs) (search needs); took-products = search needs; took-draws = search needs; took-steps = search needs }
 
 pub multiply-rows-spec : {M : Type 1} → statement M
 multiply-rows-spec =
     tie.close
-    (tie.spec row-requires row-requires-2 product-requires put-requires same-length returns)
+    (tie.spec mul-a mul-b sub-product part-product-start part-product-end sub-product-2 part-product-start-2 part-product-end-2 product-requires put-requires same-length returns)

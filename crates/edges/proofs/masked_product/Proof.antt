@@ -18,12 +18,18 @@ slice-aggregate-product-2 c = search needs
 slice-aggregate-product-3 : tie.Need-slice-aggregate-product-3
 slice-aggregate-product-3 c = search needs
 
+slice-aggregate-product-4 : tie.Need-slice-aggregate-product-4
+slice-aggregate-product-4 c = search needs
+
+slice-aggregate-product-5 : tie.Need-slice-aggregate-product-5
+slice-aggregate-product-5 c = search needs
+
 product-requires : tie.Need-product-requires
 unfolding elements each eachPair pairs
 product-requires c κs = (
   inl refl,
   (
-    omega arith,
+    (omega arith, omega arith, omega arith),
     record { products-fit = omega arith; draws-fit = omega arith; steps-fit = omega arith; enough = omega arith; places = omega arith },
   ),
 )
@@ -31,14 +37,14 @@ product-requires c κs = (
 slice-aggregate-print-line : tie.Need-slice-aggregate-print-line
 slice-aggregate-print-line c = search needs
 
-array-read-t25 : tie.Need-array-read-t25
-array-read-t25 c = search needs
+array-read-t27 : tie.Need-array-read-t27
+array-read-t27 c = search needs
 
-array-read-t28 : tie.Need-array-read-t28
-array-read-t28 c = search needs
+array-read-t30 : tie.Need-array-read-t30
+array-read-t30 c = search needs
 
-array-read-t31 : tie.Need-array-read-t31
-array-read-t31 c = search needs
+array-read-t33 : tie.Need-array-read-t33
+array-read-t33 c = search needs
 
 slice-aggregate-print-line-2 : tie.Need-slice-aggregate-print-line-2
 slice-aggregate-print-line-2 c = search needs
@@ -65,11 +71,13 @@ masked-product-spec =
     slice-aggregate-product
     slice-aggregate-product-2
     slice-aggregate-product-3
+    slice-aggregate-product-4
+    slice-aggregate-product-5
     product-requires
     slice-aggregate-print-line
-    array-read-t25
-    array-read-t28
-    array-read-t31
+    array-read-t27
+    array-read-t30
+    array-read-t33
     slice-aggregate-print-line-2
     print-line-requires
     slice-aggregate-print-line-3

@@ -112,6 +112,32 @@ fn rows(
     n
 }
 
+// The same, with the width tested outside the loops: so the loops of a pair's two products are of known length at each width.
+fn pairs(
+    width: u32,
+    s: usize,
+    a: &[u8],
+    b: &[u8],
+    random: &[u8],
+    watch: &[u32],
+    values: &mut [u8],
+    c: &mut [u8; 9],
+    n: Counts,
+) -> Counts
+    requires { ⌜ Width width ⌝ }
+    requires { ⌜ (s ≤ 9) × (9 ≤ length (now a)) × (9 ≤ length (now b)) ⌝ }
+    requires { ⌜ Ready 0 (eachPair 1 s 0) (eachPair 7 s 0) n (elements width (now random)) (now watch) (now values) ⌝ }
+    ensures { λ r. ⌜ Went 0 (eachPair 1 s 0) (eachPair 7 s 0) (elements width (now (random .entry))) (now (watch .entry))
+        (for 0 s (spec.row width s (now (a .entry)) (now (b .entry))) (now (c .entry)))
+        n (now (values .entry)) (now (c .exit)) r (now (values .exit)) ⌝ }
+{
+    if width == 4 {
+        rows(4, s, a, b, random, watch, values, c, n)
+    } else {
+        rows(6, s, a, b, random, watch, values, c, n)
+    }
+}
+
 // The product of share i of a and share i of b.
 fn start(
     width: u32,
@@ -131,7 +157,7 @@ fn start(
         (spec.start width (now (a .entry)) (now (b .entry)) i (now (c .entry)))
         n (now (values .entry)) (now (c .exit)) r (now (values .exit)) ⌝ }
 {
-    let v = field::double_and_add(width, a[i], b[i]);
+    let v = field::mul(width, a[i], b[i]);
     let next = steps::record(watch, values, n.steps, v);
     c[i] = v;
     Counts {
@@ -169,8 +195,8 @@ fn starts(
     n
 }
 
-// The masked product of the sharings a and b, of s shares: for a caller that tests the width.
-fn multiply(
+// The masked product of the sharings a and b, of s shares.
+pub fn product(
     width: u32,
     s: usize,
     a: &[u8],
@@ -195,35 +221,9 @@ fn multiply(
         steps: n.steps,
     };
     let n = starts(width, s, a, b, random, watch, &mut *values, &mut c, n);
-    let n = rows(width, s, a, b, random, watch, values, &mut c, n);
+    let n = pairs(width, s, a, b, random, watch, values, &mut c, n);
     Masked {
         shares: c,
         counts: n,
-    }
-}
-
-// The masked product of the sharings a and b, of s shares. The width is tested outside the loops, so that the loops of the field's products are of
-// known length at each width.
-pub fn product(
-    width: u32,
-    s: usize,
-    a: &[u8],
-    b: &[u8],
-    random: &[u8],
-    watch: &[u32],
-    values: &mut [u8],
-    n: Counts,
-) -> Masked
-    requires { ⌜ Width width ⌝ }
-    requires { ⌜ (s ≤ 9) × (9 ≤ length (now a)) × (9 ≤ length (now b)) ⌝ }
-    requires { ⌜ Ready 1 (eachPair 1 s 0) (each 1 s 0 + eachPair 7 s 0) n (elements width (now random)) (now watch) (now values) ⌝ }
-    ensures { λ r. ⌜ Went 1 (eachPair 1 s 0) (each 1 s 0 + eachPair 7 s 0) (elements width (now (random .entry))) (now (watch .entry))
-        (spec.product width s (now (a .entry)) (now (b .entry)))
-        n (now (values .entry)) (r .shares) (r .counts) (now (values .exit)) ⌝ }
-{
-    if width == 4 {
-        multiply(4, s, a, b, random, watch, values, n)
-    } else {
-        multiply(6, s, a, b, random, watch, values, n)
     }
 }

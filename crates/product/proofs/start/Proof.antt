@@ -4,14 +4,14 @@ use Rattle.product.proofs.Runs.{start-runs}
 use Rattle.product.proofs.start.Statement.{statement}
 use Rattle.product.proofs.start.Tie as tie
 
-shared-slice-read-double-and-add : tie.Need-shared-slice-read-double-and-add
-shared-slice-read-double-and-add c = search needs
+shared-slice-read-mul : tie.Need-shared-slice-read-mul
+shared-slice-read-mul c = search needs
 
-shared-slice-read-double-and-add-2 : tie.Need-shared-slice-read-double-and-add-2
-shared-slice-read-double-and-add-2 c = search needs
+shared-slice-read-mul-2 : tie.Need-shared-slice-read-mul-2
+shared-slice-read-mul-2 c = search needs
 
-double-and-add-requires : tie.Need-double-and-add-requires
-double-and-add-requires c κs = search needs
+mul-requires : tie.Need-mul-requires
+mul-requires c κs = search needs
 
 record-requires : tie.Need-record-requires
 record-requires c κs = search needs
@@ -30,9 +30,9 @@ pub start-spec : {M : Type 1} → statement M
 start-spec =
     tie.close
     (tie.spec
-    shared-slice-read-double-and-add
-    shared-slice-read-double-and-add-2
-    double-and-add-requires
+    shared-slice-read-mul
+    shared-slice-read-mul-2
+    mul-requires
     record-requires
     element-write-c
     same-length

@@ -6,8 +6,8 @@ use borrow.Author.Needs.{needs}
 use Rattle.linear.specs.Buffer.{cell}
 use Rattle.linear.proofs.ReadOff.{read-off-none, read-off-canonical}
 use Rattle.linear.proofs.Scalars.{laws-of}
-use Rattle.linear.proofs.solve.Statement.{statement}
-use Rattle.linear.proofs.solve.Tie as tie
+use Rattle.linear.proofs.solving.solve.Statement.{statement}
+use Rattle.linear.proofs.solving.solve.Tie as tie
 
 eliminate-requires : tie.Need-eliminate-requires
 eliminate-requires c κs = search needs

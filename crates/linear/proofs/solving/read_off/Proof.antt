@@ -11,8 +11,8 @@ use Rattle.linear.specs.Buffer.{cell}
 use Rattle.linear.specs.Elimination.{ReadOff}
 use Rattle.linear.proofs.Buffer.{row-room}
 use Rattle.linear.proofs.ReadOff.{first-nonzero-leading, read-off-start, read-off-more}
-use Rattle.linear.proofs.read_off.Statement.{statement}
-use Rattle.linear.proofs.read_off.Tie as tie
+use Rattle.linear.proofs.solving.read_off.Statement.{statement}
+use Rattle.linear.proofs.solving.read_off.Tie as tie
 
 abbrev Inv-loop : tie.InvT-loop
 Inv-loop l u m r out₀ i₀ out i = (i ≤ r) × (length out ≡ u) × ReadOff (cell (u + 1) l) u i (λ k. getD out k 0)

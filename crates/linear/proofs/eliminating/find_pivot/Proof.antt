@@ -5,8 +5,8 @@ use native.Mathlib.Decide.{ℕ-discrete}
 use native.Mathlib.Omega.{arith}
 use Rattle.linear.specs.Buffer.{cell}
 use Rattle.linear.proofs.Buffer.{row-room}
-use Rattle.linear.proofs.find_pivot.Statement.{statement}
-use Rattle.linear.proofs.find_pivot.Tie as tie
+use Rattle.linear.proofs.eliminating.find_pivot.Statement.{statement}
+use Rattle.linear.proofs.eliminating.find_pivot.Tie as tie
 
 abbrev Inv-loop : tie.InvT-loop
 Inv-loop l w m c r i₀ i = (r ≤ i) × (i ≤ m) × ((j : ℕ) → r ≤ j → j < i → cell w l j c ≡ 0)

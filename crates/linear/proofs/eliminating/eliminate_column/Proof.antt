@@ -12,8 +12,8 @@ use Rattle.linear.proofs.Buffer.{row-room}
 use Rattle.linear.proofs.Scalars.{laws-of}
 use Rattle.linear.proofs.Steps.{step-none, step-pivot-added, step-scaled, step-cleared}
 use Rattle.linear.proofs.Turns.{scaled-row}
-use Rattle.linear.proofs.eliminate_column.Statement.{statement}
-use Rattle.linear.proofs.eliminate_column.Tie as tie
+use Rattle.linear.proofs.eliminating.eliminate_column.Statement.{statement}
+use Rattle.linear.proofs.eliminating.eliminate_column.Tie as tie
 
 -- where the function began
 abbrev start : tie.After-add-pivot-row → tie.Start

@@ -2,8 +2,8 @@
 use native.Mathlib.Omega.{arith}
 use borrow.Author.Needs.{needs}
 use Rattle.linear.proofs.Buffer.{row-room}
-use Rattle.linear.proofs.clear.Statement.{statement}
-use Rattle.linear.proofs.clear.Tie as tie
+use Rattle.linear.proofs.eliminating.clear.Statement.{statement}
+use Rattle.linear.proofs.eliminating.clear.Tie as tie
 
 mul-b : tie.Need-mul-b
 mul-b c =

@@ -7,8 +7,8 @@ use Rattle.linear.specs.Buffer.{from, Filled}
 use Rattle.linear.specs.Row.{times}
 use Rattle.linear.specs.Scalars.{scalars}
 use Rattle.linear.proofs.Buffer.{filled-none, filled-more}
-use Rattle.linear.proofs.scale_row.Statement.{statement}
-use Rattle.linear.proofs.scale_row.Tie as tie
+use Rattle.linear.proofs.rows.scale_row.Statement.{statement}
+use Rattle.linear.proofs.rows.scale_row.Tie as tie
 
 abbrev Inv-loop : tie.InvT-loop
 Inv-loop n l₀ w a f k₀ l k = (k ≤ w) × (length l ≡ length l₀) × Filled l₀ l a k (times (scalars n) f (from l₀ a))

@@ -4,8 +4,8 @@ use Prim.Native.Nat.{ℕ, _+_, _*_, _-_, _<_, _≤_}
 use native.Mathlib.Decide.{ℕ-discrete}
 use native.Mathlib.Omega.{arith}
 use lib.ListN.{getD}
-use Rattle.linear.proofs.find_leading.Statement.{statement}
-use Rattle.linear.proofs.find_leading.Tie as tie
+use Rattle.linear.proofs.solving.find_leading.Statement.{statement}
+use Rattle.linear.proofs.solving.find_leading.Tie as tie
 
 abbrev Inv-loop : tie.InvT-loop
 Inv-loop l u i a k₀ k = (a ≡ i * (u + 1)) × (k ≤ u) × ((j : ℕ) → j < k → getD l (a + j) 0 ≡ 0)

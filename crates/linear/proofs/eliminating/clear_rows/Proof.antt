@@ -11,8 +11,8 @@ use Rattle.linear.specs.Scalars.{scalars}
 use Rattle.linear.proofs.Buffer.{filled-values, row-room}
 use Rattle.linear.proofs.Steps.{cleared-none}
 use Rattle.linear.proofs.Turns.{cleared-more, cleared-skip}
-use Rattle.linear.proofs.clear_rows.Statement.{statement}
-use Rattle.linear.proofs.clear_rows.Tie as tie
+use Rattle.linear.proofs.eliminating.clear_rows.Statement.{statement}
+use Rattle.linear.proofs.eliminating.clear_rows.Tie as tie
 
 abbrev Inv-loop : tie.InvT-loop
 Inv-loop width matrix₀ columns rows column rank row i₀ matrix i =

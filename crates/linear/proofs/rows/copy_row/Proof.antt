@@ -6,8 +6,8 @@ use lib.ListN.{getD, length, length-set}
 use Rattle.linear.specs.Buffer.{from}
 use Rattle.linear.specs.Row.{Agree}
 use Rattle.linear.proofs.Buffer.{agree-set}
-use Rattle.linear.proofs.copy_row.Statement.{statement}
-use Rattle.linear.proofs.copy_row.Tie as tie
+use Rattle.linear.proofs.rows.copy_row.Statement.{statement}
+use Rattle.linear.proofs.rows.copy_row.Tie as tie
 
 abbrev Inv-loop : tie.InvT-loop
 Inv-loop matrix b columns row₀ k₀ row k = (k ≤ columns) × (length row ≡ length row₀) × Agree k (λ j. getD row j 0) (from matrix b)

@@ -8,8 +8,8 @@ use Rattle.linear.specs.Buffer.{Filled, from}
 use Rattle.linear.specs.Row.{plus, times}
 use Rattle.linear.specs.Scalars.{scalars}
 use Rattle.linear.proofs.Buffer.{filled-none, filled-more}
-use Rattle.linear.proofs.add_multiple.Statement.{statement}
-use Rattle.linear.proofs.add_multiple.Tie as tie
+use Rattle.linear.proofs.rows.add_multiple.Statement.{statement}
+use Rattle.linear.proofs.rows.add_multiple.Tie as tie
 
 abbrev Inv-loop : tie.InvT-loop
 Inv-loop width matrix₀ columns a row f k₀ matrix k =

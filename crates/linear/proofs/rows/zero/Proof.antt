@@ -6,8 +6,8 @@ use native.Mathlib.Omega.{arith}
 use lib.ListN.{length, set, drop, replicate, length-set}
 use lib.Seq.{drop-length}
 use borrow.Author.Fill.{fill-none, fill-more}
-use Rattle.linear.proofs.zero.Statement.{statement}
-use Rattle.linear.proofs.zero.Tie as tie
+use Rattle.linear.proofs.rows.zero.Statement.{statement}
+use Rattle.linear.proofs.rows.zero.Tie as tie
 
 abbrev Inv-loop : tie.InvT-loop
 Inv-loop l₀ i₀ l i = (l ≡ replicate i 0 ++ drop i l₀) × (i ≤ length l₀) × (length l ≡ length l₀)

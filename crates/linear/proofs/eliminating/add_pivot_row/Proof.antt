@@ -7,8 +7,8 @@ use Rattle.linear.specs.Buffer.{from}
 use Rattle.linear.specs.Scalars.{scalars}
 use Rattle.linear.proofs.Buffer.{filled-values, row-room}
 use Rattle.linear.proofs.Turns.{pivot-added-row}
-use Rattle.linear.proofs.add_pivot_row.Statement.{statement}
-use Rattle.linear.proofs.add_pivot_row.Tie as tie
+use Rattle.linear.proofs.eliminating.add_pivot_row.Statement.{statement}
+use Rattle.linear.proofs.eliminating.add_pivot_row.Tie as tie
 
 mul-a : tie.Need-mul-a
 mul-a c =

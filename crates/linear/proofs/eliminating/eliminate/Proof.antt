@@ -9,8 +9,8 @@ use Rattle.linear.specs.Elimination.{Eliminated}
 use Rattle.linear.specs.Scalars.{scalars}
 use Rattle.linear.proofs.Reduced.{equivalent-refl, reduced-start}
 use Rattle.linear.proofs.Steps.{eliminated-self, eliminated-trans}
-use Rattle.linear.proofs.eliminate.Statement.{statement}
-use Rattle.linear.proofs.eliminate.Tie as tie
+use Rattle.linear.proofs.eliminating.eliminate.Statement.{statement}
+use Rattle.linear.proofs.eliminating.eliminate.Tie as tie
 
 abbrev Inv-loop : tie.InvT-loop
 Inv-loop n l₀ u m w r₀ c₀ l r c = (c ≤ u) × (length l ≡ length l₀) × Eliminated (scalars n) m w (cell w l₀) (cell w l) c r

@@ -1,17 +1,15 @@
 // Measures the library against the plain C and prints one table. `bench/run` builds and runs it.
 //
-// BUILDS lists the builds of plain.c. CAPI says that the library's C interface is linked. With an argument, nothing is timed: each operation
-// is run a fixed number of times for callgrind to count its instructions, which writes them to a file of its own for each line printed.
+// BUILDS lists the builds of plain.c. With an argument, nothing is timed: each operation is run a fixed number of times for callgrind to count
+// its instructions, which writes them to a file of its own for each line printed.
 #define _POSIX_C_SOURCE 200809L
 #include "check.h"
 #include "inputs.h"
+#include <lemonludo.h>
 #include <stdio.h>
 #include <stdlib.h>
 #include <string.h>
 #include <time.h>
-#ifdef CAPI
-#include <lemonludo.h>
-#endif
 #ifdef CALLGRIND
 #include <valgrind/callgrind.h>
 #endif
@@ -86,47 +84,39 @@ static void run_sbox(const struct plain *by)
 {
     const uint8_t *x = in.a[next_turn()];
     size_t n = in.z.products * pairs(in.s);
-    if (by != NULL)
-        by->sbox(in.record, in.z.record, in.s, x, in.s, in.random, n, in.out, in.s);
-#ifdef CAPI
     uint64_t answer[4];
     if (by == NULL)
         ll_sbox(in.record, in.z.record, (uint32_t)in.s, x, in.s, in.random, n, in.out, in.s, answer);
-#endif
+    else
+        by->sbox(in.record, in.z.record, in.s, x, in.s, in.random, n, in.out, in.s);
 }
 
 static void run_block(const struct plain *by)
 {
     size_t n = 527 * in.s * (in.s - 1);
-    if (by != NULL)
-        by->block(in.record, in.z.record, in.s, in.key, 10 * in.s, in.block, 8 * in.s, in.random, n, in.out, 8 * in.s);
-#ifdef CAPI
     uint64_t answer[4];
     if (by == NULL)
         ll_block(in.record, in.z.record, (uint32_t)in.s, in.key, 10 * in.s, in.block, 8 * in.s, in.random, n, in.out, 8 * in.s, answer);
-#endif
+    else
+        by->block(in.record, in.z.record, in.s, in.key, 10 * in.s, in.block, 8 * in.s, in.random, n, in.out, 8 * in.s);
 }
 
 static void run_fit(const struct plain *by)
 {
-    if (by != NULL)
-        by->fit(in.width, in.table, in.z.elements, in.record + 6, in.z.basis, in.work, in.z.work, in.out, in.z.record);
-#ifdef CAPI
     uint64_t answer[4];
     if (by == NULL)
         ll_fit(in.width, in.table, in.z.elements, in.record + 6, in.z.basis, in.work, in.z.work, in.out, in.z.record, answer);
-#endif
+    else
+        by->fit(in.width, in.table, in.z.elements, in.record + 6, in.z.basis, in.work, in.z.work, in.out, in.z.record);
 }
 
 static void run_house_fit(const struct plain *by)
 {
-    if (by != NULL)
-        by->fit(4, in.table, in.z.elements, house_basis, in.z.basis, in.work, in.z.work, in.out, in.z.record);
-#ifdef CAPI
     uint64_t answer[4];
     if (by == NULL)
         ll_house_fit(in.table, in.z.elements, in.work, in.z.work, in.out, in.z.record, answer);
-#endif
+    else
+        by->fit(4, in.table, in.z.elements, house_basis, in.z.basis, in.work, in.z.work, in.out, in.z.record);
 }
 
 static void run_present(const struct plain *by)
@@ -134,51 +124,43 @@ static void run_present(const struct plain *by)
     by->present(in.key, in.block, in.out);
 }
 
-#ifdef CAPI
-enum { HAS_CAPI = 1 };
-#else
-enum { HAS_CAPI = 0 };
-#endif
-
 struct operation {
     const char *name;
     void (*run)(const struct plain *);
     unsigned width;
     size_t s;
-    // whether it is in what is linked of the library
-    int built;
-    // the ratio that the library is to stay under
+    // the ratio that the library is to stay under; 0 where there is only plain C
     double target;
 };
 
 static const struct operation operations[] = {
-    {"masked product", run_product, 4, 1, 1, 1.2},
-    {"masked product", run_product, 4, 3, 1, 1.2},
-    {"masked product", run_product, 4, 5, 1, 1.2},
-    {"masked product", run_product, 4, 9, 1, 1.2},
-    {"masked product", run_product, 6, 1, 1, 1.2},
-    {"masked product", run_product, 6, 3, 1, 1.2},
-    {"masked product", run_product, 6, 5, 1, 1.2},
-    {"masked product", run_product, 6, 9, 1, 1.2},
-    {"masked S-box", run_sbox, 4, 1, HAS_CAPI, 1.2},
-    {"masked S-box", run_sbox, 4, 3, HAS_CAPI, 1.2},
-    {"masked S-box", run_sbox, 4, 5, HAS_CAPI, 1.2},
-    {"masked S-box", run_sbox, 4, 7, HAS_CAPI, 1.2},
-    {"masked S-box", run_sbox, 4, 9, HAS_CAPI, 1.2},
-    {"masked S-box", run_sbox, 6, 1, HAS_CAPI, 1.2},
-    {"masked S-box", run_sbox, 6, 3, HAS_CAPI, 1.2},
-    {"masked S-box", run_sbox, 6, 5, HAS_CAPI, 1.2},
-    {"masked S-box", run_sbox, 6, 7, HAS_CAPI, 1.2},
-    {"masked S-box", run_sbox, 6, 9, HAS_CAPI, 1.2},
-    {"Fit", run_fit, 4, 1, HAS_CAPI, 1.5},
-    {"Fit", run_fit, 6, 1, HAS_CAPI, 1.5},
-    {"House fit", run_house_fit, 4, 1, HAS_CAPI, 1.5},
-    {"masked PRESENT-80", run_block, 4, 1, HAS_CAPI, 1.2},
-    {"masked PRESENT-80", run_block, 4, 3, HAS_CAPI, 1.2},
-    {"masked PRESENT-80", run_block, 4, 5, HAS_CAPI, 1.2},
-    {"masked PRESENT-80", run_block, 4, 9, HAS_CAPI, 1.2},
+    {"masked product", run_product, 4, 1, 1.2},
+    {"masked product", run_product, 4, 3, 1.2},
+    {"masked product", run_product, 4, 5, 1.2},
+    {"masked product", run_product, 4, 9, 1.2},
+    {"masked product", run_product, 6, 1, 1.2},
+    {"masked product", run_product, 6, 3, 1.2},
+    {"masked product", run_product, 6, 5, 1.2},
+    {"masked product", run_product, 6, 9, 1.2},
+    {"masked S-box", run_sbox, 4, 1, 1.2},
+    {"masked S-box", run_sbox, 4, 3, 1.2},
+    {"masked S-box", run_sbox, 4, 5, 1.2},
+    {"masked S-box", run_sbox, 4, 7, 1.2},
+    {"masked S-box", run_sbox, 4, 9, 1.2},
+    {"masked S-box", run_sbox, 6, 1, 1.2},
+    {"masked S-box", run_sbox, 6, 3, 1.2},
+    {"masked S-box", run_sbox, 6, 5, 1.2},
+    {"masked S-box", run_sbox, 6, 7, 1.2},
+    {"masked S-box", run_sbox, 6, 9, 1.2},
+    {"Fit", run_fit, 4, 1, 1.5},
+    {"Fit", run_fit, 6, 1, 1.5},
+    {"House fit", run_house_fit, 4, 1, 1.5},
+    {"masked PRESENT-80", run_block, 4, 1, 1.2},
+    {"masked PRESENT-80", run_block, 4, 3, 1.2},
+    {"masked PRESENT-80", run_block, 4, 5, 1.2},
+    {"masked PRESENT-80", run_block, 4, 9, 1.2},
     // without masking, in plain C only
-    {"PRESENT-80", run_present, 4, 1, 0, 0},
+    {"PRESENT-80", run_present, 4, 1, 0},
 };
 enum { OPERATION_COUNT = sizeof operations / sizeof operations[0] };
 
@@ -193,7 +175,7 @@ static void compare(const struct operation *o)
 {
     uint8_t expected[sizeof in.out];
     prepare(o->width, o->s);
-    for (size_t turn = 0; turn < TURNS && o->built; turn++) {
+    for (size_t turn = 0; turn < TURNS && o->target > 0; turn++) {
         o->run(NULL);
         memcpy(expected, in.out, sizeof expected);
         in.turn = turn;
@@ -240,7 +222,7 @@ static void measure(const struct operation *o, struct times *best)
         for (best->calls = 1; batch(o, builds[0], best->calls) < 5e-4;)
             best->calls *= 2;
     for (unsigned round = 0; round < 20; round++) {
-        if (o->built)
+        if (o->target > 0)
             keep_best(&best->library, batch(o, NULL, best->calls) / best->calls);
         for (size_t k = 0; k < BUILD_COUNT; k++)
             keep_best(&best->plain[k], batch(o, builds[k], best->calls) / best->calls);
@@ -258,19 +240,19 @@ static void print_time(double t)
 static void print_line(const struct operation *o, const struct times *t, double unmasked)
 {
     printf("%-18s %5u %6zu", o->name, o->width, o->s);
-    if (o->built)
+    if (o->target > 0)
         print_time(t->library);
     else
-        printf(" %12s", o->run == run_present ? "" : "not built");
+        printf(" %12s", "");
     for (size_t k = 0; k < BUILD_COUNT; k++) {
         double ratio = t->library / t->plain[k];
         print_time(t->plain[k]);
-        if (o->built)
+        if (o->target > 0)
             printf(" %5.2f%c", ratio, k == 0 && ratio > o->target ? '*' : ' ');
         else
             printf(" %6s", "");
     }
-    if (o->built && o->run == run_block)
+    if (o->run == run_block)
         printf(" %8.1f", t->library / unmasked);
     printf("\n");
 }
@@ -301,7 +283,7 @@ static void count_instructions(void)
         const struct operation *o = operations + i;
         for (size_t k = 0; k <= BUILD_COUNT; k++) {
             const struct plain *by = k == 0 ? NULL : builds[k - 1];
-            if (by == NULL && !o->built)
+            if (by == NULL && o->target == 0)
                 continue;
             prepare(o->width, o->s);
             CALLGRIND_ZERO_STATS;

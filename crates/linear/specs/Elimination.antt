@@ -32,6 +32,11 @@ pub record Eliminated (S : Scalars) (m w : ℕ) (M N : ℕ → ℕ → ℕ) (c r
   pub equivalent : Equivalent S m w M N
   pub reduced : Reduced m N c r
 
+-- the same with some rank
+pub record Reducing (S : Scalars) (m w : ℕ) (M N : ℕ → ℕ → ℕ) (c : ℕ) : Type 0 where
+  pub rank : ℕ
+  pub eliminated : Eliminated S m w M N c rank
+
 -- ---- the steps for one column
 
 -- p is the first row from r on that is not zero in column c, or m if there is none

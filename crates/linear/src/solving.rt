@@ -4,7 +4,7 @@ ghost use Prim.Native.Nat.{_+_, _*_, _<_, _≤_};
 ghost use lib.ListN.{length, getD};
 ghost use Rattle.field.specs.Mul.{Width};
 ghost use Rattle.linear.specs.Scalars.{scalars};
-ghost use Rattle.linear.specs.Elimination.{Reduced, FirstNonzero, ReadOff};
+ghost use Rattle.linear.specs.Elimination.{Reducing, Reduced, FirstNonzero, ReadOff};
 ghost use Rattle.linear.specs.Buffer.{cell, Grid, Solved};
 use crate::eliminating::eliminate;
 use crate::eliminating::find_pivot;
@@ -41,10 +41,13 @@ fn read_off(matrix: &[u8], unknowns: usize, rows: usize, rank: usize, out: &mut 
     }
 }
 
-// Solves the equations. Where there is a solution it writes the canonical one and returns true; else `out` is left as it is.
+// Solves the equations. Where there is a solution it writes the canonical one and returns true; else `out` is left as it is. The matrix is left
+// reduced.
 pub fn solve(width: u32, matrix: &mut [u8], unknowns: usize, rows: usize, out: &mut [u8]) -> bool
     requires { ⌜ Width width ⌝ }
     requires { ⌜ Grid (scalars width) (now matrix) rows (unknowns + 1) × (unknowns < 256) × (length (now out) ≡ unknowns) ⌝ }
+    ensures { λ _. ⌜ Reducing (scalars width) rows (unknowns + 1)
+        (cell (unknowns + 1) (now (matrix .entry))) (cell (unknowns + 1) (now (matrix .exit))) unknowns ⌝ }
     ensures { λ solved. ⌜ Solved (scalars width) rows unknowns (cell (unknowns + 1) (now (matrix .entry)))
         (now (out .entry)) (now (out .exit)) solved ⌝ }
 {

@@ -116,7 +116,7 @@ returns c =
         p = p;
         decomposition =
             solved-decomposition (s .pre .0) (s .args .table .now) q (z .elements) (a .equations .last .1 .1 .1 .0) (take k (drop (L .start) l)) p
-            (a .equations .ensures) {b = v .solve .result} (v .solve .ensures) (w .before .before .if1 .taken) (written-length v);
+            (a .equations .ensures) {b = v .solve .result} (v .solve .ensures .1) (w .before .before .if1 .taken) (written-length v);
         whole = w .write-head .ensures ∙ ap (headed (L .width) q) tail;
         nothing-more = refl;
       },
@@ -140,7 +140,7 @@ returns-2 c =
     let p : List ℕ = v .solve .last .1 .1 .1 .1 .0 in
     let n = solved-none (s .pre .0) (s .args .table .now) (s .args .basis .now) (s .pre .1 .elements) (a .equations .last .1 .1 .1 .0)
     (take k (drop (L .start) l)) p
-    (a .equations .ensures) {b = v .solve .result} (v .solve .ensures) (c .if1 .left) in (
+    (a .equations .ensures) {b = v .solve .result} (v .solve .ensures .1) (c .if1 .left) in (
       cleared zr,
       record {
         number-is = refl;

@@ -27,10 +27,13 @@ returns c =
     let d = c .before .before .before .before .before .eliminate in
     let p = c .before .find-pivot in
     let w = s .args .unknowns + 1 in (
-      read-off-none (laws-of (s .pre .0)) (s .args .rows) (s .args .unknowns) w (d .result) (omega arith) (cell w (s .args .matrix .now))
-          (cell w (d .last .1 .0)) (d .ensures)
-          (p .result) (p .ensures .after) (c .if1 .taken) (p .ensures .found (c .if1 .taken)),
-      refl,
+      record { rank = d .result; eliminated = d .ensures },
+      (
+        read-off-none (laws-of (s .pre .0)) (s .args .rows) (s .args .unknowns) w (d .result) (omega arith) (cell w (s .args .matrix .now))
+            (cell w (d .last .1 .0)) (d .ensures)
+            (p .result) (p .ensures .after) (c .if1 .taken) (p .ensures .found (c .if1 .taken)),
+        refl,
+      ),
     )
 
 read-off-requires : tie.Need-read-off-requires
@@ -49,10 +52,12 @@ returns-2 c =
     let d = b .before .before .before .before .eliminate in
     let s = b .before .before .before .before .before .before .before .before in
     let p = b .find-pivot in
-    let w = s .args .unknowns + 1 in
-    read-off-canonical (laws-of (s .pre .0)) (s .args .rows) (s .args .unknowns) w (d .result) (omega arith) (cell w (s .args .matrix .now))
-    (cell w (d .last .1 .0)) (d .ensures)
-    (λ i g l. p .ensures .skipped i g (omega (arith, r .before .before .before .if1 .left))) _ (r .read-off .ensures)
+    let w = s .args .unknowns + 1 in (
+      record { rank = d .result; eliminated = d .ensures },
+      read-off-canonical (laws-of (s .pre .0)) (s .args .rows) (s .args .unknowns) w (d .result) (omega arith) (cell w (s .args .matrix .now))
+          (cell w (d .last .1 .0)) (d .ensures)
+          (λ i g l. p .ensures .skipped i g (omega (arith, r .before .before .before .if1 .left))) _ (r .read-off .ensures),
+    )
 
 pub solve-spec : {M : Type 1} → statement M
 solve-spec =

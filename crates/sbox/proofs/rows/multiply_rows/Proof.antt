@@ -30,9 +30,7 @@ part-product-end-2 : tie.Need-part-product-end-2
 part-product-end-2 c = search needs
 
 product-requires : tie.Need-product-requires
-product-requires c κs =
-    let a = c .before .before .before .before .before .before .before .before .args in
-    (search needs, ((search needs, row-long (a .t .now) (a .x) (omega arith), row-long (a .t .now) (a .y) (omega arith)), search needs))
+product-requires c κs = (search needs, ((search needs, search (needs, row-long), search (needs, row-long)), search needs))
 
 put-requires : tie.Need-put-requires
 put-requires c κs = search needs

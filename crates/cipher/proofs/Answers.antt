@@ -1,15 +1,14 @@
 -- ANSWERS ALIKE. Two calls of Block, or of Watch block, with the same record, share count, list and slice lengths, and with random elements that are
 -- too large, if any, at the same places, give the same answer, whatever the shares and the random elements; and what they hand back are the paper's
 -- figures.
-use mathlib.Core.Path.{_≡_, refl, sym, ap, ap₂, _∙_}
+use mathlib.Core.Path.{_≡_, sym, ap, _∙_}
 use mathlib.Core.Bool.{Bool, _&&_}
 use mathlib.Core.List.{List, [], _∷_}
 use Prim.Native.Nat.{ℕ, _*_}
-use native.Mathlib.Omega.{arith}
 use lib.Dec.{leb, eqb}
 use lib.ListN.{length, length-replicate}
 use Rattle.xor.specs.Sum.{join, Small}
-use Rattle.refusal.specs.Outcome.{Outcome, done, refused, andThen}
+use Rattle.refusal.specs.Outcome.{Outcome, done, andThen}
 use Rattle.refusal.specs.Large.{firstLarge, LargeAlike}
 use Rattle.refusal.proofs.Outcome.{then-passed, done-values, then-alike}
 use Rattle.refusal.proofs.Large.{large-same}

@@ -1,17 +1,11 @@
 -- The masked S-box of a record of PRESENT's table, as the block needs it: it substitutes, and it hides every share.
 use mathlib.Core.Logic.{inl}
-use mathlib.Core.Path.{_≡_, refl, ap, subst, _∙_}
-use mathlib.Core.List.{List, [], _∷_}
+use mathlib.Core.Path.{_≡_, refl, subst, _∙_}
+use mathlib.Core.List.{List}
 use Prim.Native.Nat.{ℕ, _^_, _≤_, _<_}
-use lib.ListN.{length, getD}
-use Rattle.xor.specs.Sum.{join}
 use Rattle.xor.proofs.Sum.{join-small}
 use Rattle.field.proofs.Inverses.{field-4}
-use Rattle.steps.specs.Shape.{Shaped}
-use Rattle.steps.specs.Sharing.{Sharing}
 use Rattle.steps.proofs.Shape.{shaped-weaken}
-use Rattle.decomposition.specs.Layout.{layout}
-use Rattle.decomposition.specs.Check.{recordForm}
 use Rattle.decomposition.proofs.ReadOutcome.{read-accepted}
 use Rattle.decomposition.proofs.Theorems.{check-computes}
 use Rattle.decomposition.proofs.Sizes.{layout-width}

@@ -2,12 +2,12 @@
 use mathlib.Core.Path.{_≡_, refl, sym, ap, subst, _∙_}
 use mathlib.Core.Bool.{Bool, true, false}
 use mathlib.Core.List.{List, [], _∷_}
-use Prim.Native.Nat.{ℕ, _+_, _-_, _*_, _^_, _≤_, _<_}
+use Prim.Native.Nat.{ℕ, _+_, _*_, _≤_, _<_}
 use native.Mathlib.Nat.{mul-le-mul}
 use native.Mathlib.Omega.{arith}
 use borrow.Author.Tests.{eqb-true, leb-true}
 use lib.Dec.{leb, eqb}
-use lib.ListN.{length, getD, drop}
+use lib.ListN.{length, drop}
 use lib.Seq.{getD-drop}
 use Rattle.xor.specs.Sum.{join, Small}
 use Rattle.refusal.specs.Outcome.{done, refused, test}
@@ -19,8 +19,7 @@ use Rattle.refusal.proofs.Large.{all-small}
 use Rattle.field.proofs.Polynomial.{length-exponents-4}
 use Rattle.steps.specs.declared.counts.Counts.{Counts}
 use Rattle.steps.specs.Program.{result}
-use Rattle.steps.specs.Sharing.{share, Sharing}
-use Rattle.steps.specs.Fill.{tabulate}
+use Rattle.steps.specs.Sharing.{share}
 use Rattle.steps.specs.Tape.{elements, bytesFor}
 use Rattle.steps.specs.Machine.{zeroCounts, Ready, Went, Whole}
 use Rattle.steps.proofs.Machine.{went-watched}

@@ -1,18 +1,17 @@
 -- The S-box on a nibble of each share: what it takes, what it gives, and what that comes to on the machine.
-use mathlib.Core.Path.{_≡_, refl, sym, ap, subst, _∙_}
+use mathlib.Core.Path.{_≡_, refl, ap, _∙_}
 use mathlib.Core.List.{List, map}
-use Prim.Native.Nat.{ℕ, _+_, _*_, _≤_, _<_}
-use native.Mathlib.Omega.{arith}
+use Prim.Native.Nat.{ℕ, _+_, _*_, _≤_}
 use lib.ListN.{length, drop}
 use Rattle.xor.specs.Sum.{join}
 use Rattle.xor.proofs.Sum.{additive-below-zero}
 use Rattle.field.specs.Polynomial.{exponents}
 use Rattle.field.proofs.Polynomial.{length-exponents-4}
 use Rattle.steps.specs.declared.counts.Counts.{Counts}
-use Rattle.steps.specs.Program.{Run, done, _>>=_, result}
+use Rattle.steps.specs.Program.{Run, result}
 use Rattle.steps.specs.Sharing.{share, Sharing}
-use Rattle.steps.specs.Machine.{exec, Went}
-use Rattle.steps.proofs.Machine.{exec-whole, then-runs, done-runs}
+use Rattle.steps.specs.Machine.{Went}
+use Rattle.steps.proofs.Machine.{exec-whole}
 use Rattle.decomposition.specs.Layout.{termsOf}
 use Rattle.sbox.specs.Form.{basisSize}
 use Rattle.present.specs.Present.{nibble, replace}

@@ -1,10 +1,10 @@
 -- THE BYTES. The shares that Block writes join to the PRESENT-80 ciphertext of what the shares of the key and of the block join to.
 use mathlib.Core.Path.{_≡_, refl, sym, ap, _∙_}
 use mathlib.Core.List.{List, []}
-use Prim.Native.Nat.{ℕ, _*_, _^_, _≤_, _<_}
+use Prim.Native.Nat.{ℕ, _*_, _≤_}
 use native.Mathlib.Decide.{decLt}
 use native.Mathlib.Omega.{arith}
-use lib.ListN.{length, getD, List·getD-eq-default}
+use lib.ListN.{List·getD-eq-default}
 use lib.Pow.{pow-pos}
 use Rattle.xor.specs.Sum.{join, Small}
 use Rattle.refusal.specs.Outcome.{done}
@@ -15,7 +15,7 @@ use Rattle.steps.specs.Tape.{elements}
 use Rattle.steps.proofs.Fill.{length-tabulate, getD-tabulate}
 use Rattle.steps.proofs.Sharing.{join-for, for-sum-same}
 use Rattle.present.specs.Present.{size80, encrypt}
-use Rattle.layers.specs.State.{shareAt, sharesOf, bytesOf}
+use Rattle.layers.specs.State.{shareAt, sharesOf}
 use Rattle.layers.proofs.Number.{number-lt}
 use Rattle.layers.proofs.Stored.{shares-of-bytes}
 use Rattle.cipher.specs.Operations.{callProgram, recordTests, blockOutput, Callable}

@@ -1,16 +1,15 @@
 -- What the parts of a round come to on the machine.
-use mathlib.Core.Path.{_≡_, refl, sym, ap, _∙_}
+use mathlib.Core.Path.{_≡_, _∙_}
 use mathlib.Core.List.{List}
-use Prim.Native.Nat.{ℕ, suc, _+_, _-_, _*_}
+use Prim.Native.Nat.{ℕ, _+_}
 use native.Mathlib.Omega.{arith}
 use Rattle.xor.specs.Xor.{_⊕_}
 use Rattle.steps.specs.declared.counts.Counts.{Counts}
-use Rattle.steps.specs.Program.{Run, one, done, _>>=_, _>>_, note, loop, for}
+use Rattle.steps.specs.Program.{Run, one, done, _>>=_, _>>_, note}
 use Rattle.steps.specs.Recorder.{seen}
-use Rattle.steps.specs.Machine.{Ended, ended, exec, onward, Went}
+use Rattle.steps.specs.Machine.{exec, Went}
 use Rattle.steps.specs.Loop.{each}
 use Rattle.steps.specs.Sharing.{share}
-use Rattle.steps.proofs.Machine.{exec-bind, then-runs, done-runs}
 use Rattle.steps.proofs.Parts.{went-map, went-once}
 use Rattle.steps.proofs.Loop.{each-all}
 use Rattle.present.specs.Present.{nibble, size80, roundNumber}

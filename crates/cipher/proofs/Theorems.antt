@@ -19,7 +19,7 @@ use Rattle.steps.proofs.Shape.{shaped-result, shaped-steps, shaped-draws, shape
 use Rattle.sbox.specs.Figures.{sboxProducts, sboxDraws, sboxSteps}
 use Rattle.sbox.proofs.Counts.{sbox-steps, sbox-draws, sbox-products, uniform-sbox}
 use Rattle.present.specs.Present.{size80, State, encrypt}
-use Rattle.present.specs.Masked.{maskedEncrypt, blockShape}
+use Rattle.present.specs.Masked.{blockShape}
 use Rattle.present.specs.Experiment.{Secret}
 use Rattle.present.proofs.Numbers.{sound80}
 use Rattle.present.proofs.Joined.{encrypt-joins}

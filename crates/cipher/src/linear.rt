@@ -1,5 +1,5 @@
 // The linear parts of a round.
-ghost use Prim.Native.Nat.{_+_, _<_, _≤_};
+ghost use Prim.Native.Nat.{_<_, _≤_};
 ghost use Rattle.steps.specs.Tape.{elements};
 ghost use Rattle.steps.specs.Machine.{Ready, Went};
 ghost use Rattle.steps.specs.Loop.{each};

@@ -1,7 +1,7 @@
 -- Doubling and the product are additive, at every width; the product bit by bit.
 use mathlib.Core.Path.{_≡_, refl, sym, ap, ap₂, _∙_}
 use mathlib.Core.Logic.{_⊎_, inl, inr}
-use Prim.Native.Nat.{ℕ, zero, suc, _+_, _*_, _/_, _%_, _^_, _≤_, _<_}
+use Prim.Native.Nat.{ℕ, zero, suc, _*_, _/_, _%_, _^_, _≤_, _<_}
 use native.Mathlib.Nat.{mod-lt, zero-lt-suc, mod-one, one-mul, zero-mul, le-of-suc-le-suc}
 use native.Mathlib.Nat as N
 use native.Mathlib.Numerals.{add-one}

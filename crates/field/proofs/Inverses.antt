@@ -1,6 +1,6 @@
 -- Inverses: the widths of the library are fields, each by one computed test; and what follows in every field.
 use mathlib.Core.Logic.{inl, inr}
-use mathlib.Core.Path.{_≡_, refl, sym, ap, ap₂, _∙_, subst}
+use mathlib.Core.Path.{_≡_, sym, ap, ap₂, _∙_, subst}
 use Prim.Native.Nat.{ℕ, zero, suc, _+_, _-_, _*_, _^_, _<_}
 use native.Mathlib.Nat.{not-suc-le-zero}
 use native.Mathlib.Omega.{arith}
@@ -10,7 +10,7 @@ use Rattle.xor.specs.Xor.{_⊕_}
 use Rattle.field.specs.Mul.{Width, reduction, modulus, double, doubleAndAdd, mul, Ring}
 use Rattle.field.specs.Power.{pow, square, inverse, Field}
 use Rattle.field.proofs.Bilinear.{mul-zero}
-use Rattle.field.proofs.Ring.{ring-4, ring-6, mul-comm, mul-assoc, mul-one, mul-one-left, one-lt, mul-small}
+use Rattle.field.proofs.Ring.{ring-4, ring-6, mul-comm, mul-assoc, mul-one, mul-one-left, one-lt}
 use Rattle.field.proofs.Power.{pow-suc, pow-add, pow-twice, pow-small, pow-one}
 use Rattle.field.proofs.Tests.{all, same-below}
 

@@ -1,5 +1,5 @@
 -- Powers and squares, at every width.
-use mathlib.Core.Path.{_≡_, refl, sym, ap, _∙_, subst}
+use mathlib.Core.Path.{_≡_, refl, sym, ap, _∙_}
 use Prim.Native.Nat.{ℕ, zero, suc, _+_, _*_, _^_, _<_}
 use native.Mathlib.Nat.{zero-add, suc-add, mul-suc, add-comm}
 use native.Mathlib.Nat as N

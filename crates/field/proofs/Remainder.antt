@@ -2,7 +2,7 @@
 use mathlib.Core.Path.{_≡_, refl, sym, ap, ap₂, _∙_, subst}
 use mathlib.Core.Logic.{_⊎_, inl, inr}
 use Prim.Native.Nat.{ℕ, zero, suc, _+_, _*_, _/_, _%_, _^_, _≤_, _<_}
-use native.Mathlib.Nat.{mod-lt, zero-lt-suc, div-lt-iff-lt-mul, div-eq-of-lt, one-mul, zero-mul, mul-one, suc-add, add-suc, lt-of-lt-of-le, add-comm}
+use native.Mathlib.Nat.{mod-lt, div-eq-of-lt, one-mul, zero-mul, mul-one, suc-add, add-suc, lt-of-lt-of-le, add-comm}
 use native.Mathlib.Omega.{arith}
 use lib.Arith.{lt-one}
 use lib.Pow.{pow-pos, pow-mono, high, shr-shr, shl-shr}

@@ -1,7 +1,7 @@
 -- At every width the elements are a commutative ring.
 use mathlib.Core.Path.{_≡_, refl, sym, ap, ap₂, _∙_}
 use Prim.Native.Nat.{ℕ, zero, suc, _+_, _*_, _/_, _%_, _^_, _<_}
-use native.Mathlib.Nat.{div-eq-of-lt, mod-eq-of-lt, one-mul, zero-mul, add-zero}
+use native.Mathlib.Nat.{div-eq-of-lt, mod-eq-of-lt, one-mul, zero-mul}
 use native.Mathlib.Omega.{arith}
 use lib.Dec.{lit<}
 use lib.Pow.{pow-pos, pow-lt, high, low}

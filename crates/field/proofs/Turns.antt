@@ -1,8 +1,8 @@
 -- What the code's proofs need besides the laws: the width by a test, and a turn of each loop.
 use mathlib.Core.Logic.{_⊎_, inl, inr, ⊎-elim}
-use mathlib.Core.Path.{_≡_, refl, sym, ap, ap₂, _∙_}
+use mathlib.Core.Path.{_≡_, refl, sym, ap, _∙_}
 use Prim.Native.Nat.{ℕ, suc, _+_, _-_, _*_, _/_, _%_, _^_, _≤_, _<_}
-use native.Mathlib.Nat.{zero-mul, one-mul, zero-add, add-comm, mod-lt, le-trans, le-of-eq, mul-le-mul-left, mod-eq-of-lt, mul-one}
+use native.Mathlib.Nat.{zero-mul, one-mul, zero-add, add-comm, mod-lt, le-trans, le-of-eq, mul-le-mul-left, mul-one}
 use native.Mathlib.Nat as N
 use native.Mathlib.Numerals.{add-one}
 use native.Mathlib.Omega.{arith}

@@ -1,18 +1,16 @@
 -- The four exchanges are the permutation: both are additive, and they agree at each bit.
-use mathlib.Core.Path.{_≡_, refl, sym, ap, ap₂, _∙_}
+use mathlib.Core.Path.{_≡_, sym, ap, ap₂, _∙_}
 use mathlib.Core.Logic.{_⊎_, inl, inr}
-use Prim.Native.Nat.{ℕ, _+_, _*_, _/_, _%_, _^_, _<_}
+use Prim.Native.Nat.{ℕ, _*_, _/_, _%_, _^_, _<_}
 use native.Mathlib.Omega.{arith}
 use lib.Arith.{bin-ind}
-use lib.Bits.{bitAnd, and-shr, and-mod, and-lt}
-use lib.Dec.{eqb}
-use lib.Pow.{shr-lt}
+use lib.Bits.{bitAnd, and-shr, and-mod}
 use Rattle.xor.specs.Xor.{_⊕_}
-use Rattle.xor.specs.Sum.{Additive, AdditiveBelow}
+use Rattle.xor.specs.Sum.{Additive}
 use Rattle.xor.proofs.Xor.{bit-cases, ⊕-zero, zero-⊕, ⊕-self, ⊕-shr, ⊕-mod, ⊕-exchange}
 use Rattle.xor.proofs.Sum.{additive-below}
 use Rattle.xor.proofs.Basis.{agree}
-use Rattle.field.proofs.Tests.{all, same-below}
+use Rattle.field.proofs.Tests.{same-below}
 use Rattle.present.specs.Present.{turns, iterate, bit, place, send, permute}
 use Rattle.present.proofs.Numbers.{⊕-shl, permute-linear}
 use Rattle.layers.specs.Swap.{difference, exchange}

@@ -1,13 +1,12 @@
 -- Numbers in bytes: a byte more, parts, a byte that is read, and bytes that are changed.
 use mathlib.Core.Path.{_≡_, refl, sym, ap, ap₂, _∙_}
-use mathlib.Core.Logic.{_≢_}
-use mathlib.Core.List.{List, [], _∷_, _++_}
+use mathlib.Core.List.{List, _++_}
 use Prim.Native.Nat.{ℕ, zero, suc, _+_, _-_, _*_, _/_, _%_, _^_, _≤_, _<_}
 use native.Mathlib.Nat.{mul-assoc, add-mul, add-assoc, add-suc, add-zero, zero-add, lt-of-lt-of-le}
 use native.Mathlib.Numerals.{add-one}
 use native.Mathlib.Omega.{arith}
 use lib.Arith.{digits-lt, digits-mod}
-use lib.ListN.{length, getD, take, drop, set, length-append, List·getD-append}
+use lib.ListN.{length, getD, take, drop, set, List·getD-append}
 use lib.Pow.{pow-pos, pow-mono, pow-add, high}
 use lib.Seq.{paste, length-paste-head, length-take-le, getD-append-add, getD-take, getD-drop, getD-set-same, getD-set-other}
 use Rattle.xor.specs.Xor.{_⊕_}

@@ -1,5 +1,5 @@
 -- The laws of shares in bytes: what a changed byte, and bytes that are written, do to the shares.
-use mathlib.Core.Path.{_≡_, refl, sym, ap, ap₂, _∙_}
+use mathlib.Core.Path.{_≡_, sym, ap, ap₂, _∙_}
 use mathlib.Core.Logic.{_≢_}
 use mathlib.Core.List.{List}
 use Prim.Native.Nat.{ℕ, zero, suc, _+_, _-_, _*_, _/_, _%_, _^_, _≤_, _<_}
@@ -17,7 +17,7 @@ use Rattle.field.proofs.Tests.{same-below}
 use Rattle.present.specs.Bytes.{fromBytes, toBytes}
 use Rattle.present.specs.Present.{nibble, replace, size80, roundKey, rotate, roundNumber}
 use Rattle.present.proofs.Bytes.{length-to-bytes}
-use Rattle.present.proofs.Numbers.{nibble-lt, replace-is}
+use Rattle.present.proofs.Numbers.{replace-is}
 use Rattle.layers.specs.State.{bytesAt, shareAt, Changed}
 use Rattle.layers.proofs.Number.{number-parts, number-lt, number-byte, number-same, number-set, paste-before, paste-after, number-put}
 

@@ -1,7 +1,7 @@
 // All shares of a block or of a key: the parts of a round on them, and nibbles as sharings of their own.
 ghost use mathlib.Core.Path.{_≡_};
 ghost use mathlib.Core.List.{map};
-ghost use Prim.Native.Nat.{_+_, _*_, _<_, _≤_};
+ghost use Prim.Native.Nat.{_*_, _<_, _≤_};
 ghost use lib.ListN.{length};
 ghost use lib.Seq.{paste};
 ghost use Rattle.xor.specs.Xor.{_⊕_};

@@ -1,7 +1,6 @@
 -- Every check on paper holds.
 use mathlib.Core.Path.{_≡_, refl}
-use mathlib.Core.List.{List, map, flatten}
-use Prim.Native.Nat.{ℕ}
+use mathlib.Core.List.{map, flatten}
 use Rattle.field.specs.Polynomial.{classes, exponents, combination, value}
 use Rattle.decomposition.specs.Layout.{termsOf}
 use Rattle.decomposition.specs.Fit.{houseBasis}

@@ -1,22 +1,21 @@
 -- ANSWERS ALIKE. Two calls of S-box, or of Watch S-box, with the same record, share count, list and slice lengths, and with elements that are too large,
 -- if any, at the same places, give the same answer, whatever the shares and the random elements; and what they hand back are the paper's figures.
-use mathlib.Core.Path.{_≡_, refl, sym, ap, ap₂, _∙_, subst}
+use mathlib.Core.Path.{_≡_, refl, sym, ap, ap₂, _∙_}
 use mathlib.Core.Bool.{Bool, _&&_}
 use mathlib.Core.List.{List, [], _∷_, _++_}
-use Prim.Native.Nat.{ℕ, zero, suc, _+_, _^_, _≤_, _<_}
+use Prim.Native.Nat.{ℕ, _+_, _^_}
 use native.Mathlib.Omega.{arith}
 use lib.Dec.{leb, eqb}
 use lib.ListN.{length, length-append, length-replicate, List·getD-eq-default}
 use lib.Pow.{pow-pos}
 use Rattle.xor.specs.Sum.{join, Small}
-use Rattle.refusal.specs.Outcome.{Outcome, done, refused, andThen}
+use Rattle.refusal.specs.Outcome.{Outcome, done, andThen}
 use Rattle.refusal.specs.Large.{firstLarge, LargeAlike}
 use Rattle.refusal.proofs.Large.{all-small, large-same, alike-append, both-small}
 use Rattle.steps.specs.Sharing.{Sharing}
 use Rattle.steps.specs.Tape.{elements, bytesFor}
 use Rattle.steps.proofs.Tape.{elements-length}
 use Rattle.sbox.specs.Figures.{sboxProducts, sboxDraws, sboxSteps}
-use Rattle.sbox.specs.Polynomials.{basisIn, solutionIn}
 use Rattle.decomposition.specs.Record.{widthOf, readOutcome}
 use Rattle.sbox.specs.Operations.{callProgram, callCounts, argumentTests, callTests, sboxOutcome, testSteps, watchOutcome, Callable}
 use Rattle.sbox.proofs.Record.{accepted-record}

@@ -12,7 +12,7 @@ use lib.ListN.{length, getD, set, replicate, length-append, length-set, List·ge
 use lib.Seq.{getD-set-same, getD-set-other, getD-append-add, getD-at}
 use Rattle.xor.specs.Xor.{_⊕_}
 use Rattle.field.specs.Polynomial.{exponents}
-use Rattle.steps.specs.Program.{Run, done, mark, one, _>>=_, _>>_, note, loop, for}
+use Rattle.steps.specs.Program.{Run, done, mark, one, _>>=_, note, loop, for}
 use Rattle.steps.specs.Sharing.{share}
 use Rattle.steps.proofs.Program.{bind-bind, for-same, for-split, for-turn, for-end}
 use Rattle.steps.proofs.Lockstep.{Lockstep, lockstep-done, lockstep-step, lockstep-bind, lockstep-right, lockstep-self, lockstep-left}

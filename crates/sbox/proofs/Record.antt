@@ -1,12 +1,11 @@
 -- A record that Read accepts gives the coefficients of a form, and the form of these coefficients is the form of the record.
-use mathlib.Core.Logic.{inl, inr}
-use mathlib.Core.Path.{_≡_, refl, sym, ap, ap₂, subst, _∙_}
+use mathlib.Core.Path.{_≡_, refl, sym, ap, ap₂, _∙_}
 use mathlib.Core.List.{List, [], _∷_}
-use Prim.Native.Nat.{ℕ, zero, suc, _+_, _-_, _*_, _^_, _≤_, _<_}
+use Prim.Native.Nat.{ℕ, zero, suc, _+_, _-_, _*_, _≤_, _<_}
 use native.Mathlib.Nat.{suc-mul, mul-le-mul, le-refl}
 use native.Mathlib.Decide.{decLt}
 use native.Mathlib.Omega.{arith}
-use lib.ListN.{length, getD, take, drop, List·getD-eq-default}
+use lib.ListN.{length, take, drop, List·getD-eq-default}
 use lib.Pow.{pow-pos}
 use lib.Seq.{getD-drop, drop-drop, take-take}
 use Rattle.xor.specs.Xor.{_⊕_}
@@ -14,16 +13,14 @@ use Rattle.xor.specs.Sum.{Small}
 use Rattle.xor.proofs.Sum.{sum-of-same}
 use Rattle.field.specs.Mul.{Width, mul}
 use Rattle.field.specs.Polynomial.{exponents, value}
-use Rattle.steps.specs.Fill.{tabulate}
 use Rattle.steps.proofs.Fill.{length-tabulate, getD-tabulate}
 use Rattle.decomposition.specs.Layout.{termsOf, layout, sized}
 use Rattle.decomposition.specs.Form.{valueOf, form}
 use Rattle.decomposition.specs.Record.{Accepted}
-use Rattle.decomposition.specs.Record.{basisOf, solutionOf}
 use Rattle.decomposition.specs.Check.{recordForm}
 use Rattle.decomposition.proofs.Sizes.{known-width}
 use Rattle.sbox.specs.Sbox.{nth}
-use Rattle.sbox.specs.Form.{formOf, Coefficients, basisSize, AcceptedForm}
+use Rattle.sbox.specs.Form.{formOf, basisSize, AcceptedForm}
 use Rattle.sbox.specs.Polynomials.{polynomialsOf, basisIn, solutionIn}
 
 -- ---- the polynomials of a list of coefficients

@@ -11,10 +11,9 @@ use lib.Seq.{take-all}
 use Rattle.xor.specs.Xor.{_⊕_}
 use Rattle.field.specs.Mul.{mul}
 use Rattle.steps.specs.declared.counts.Counts.{Counts}
-use Rattle.steps.specs.Program.{Run, done, _>>=_, note}
-use Rattle.steps.specs.Sharing.{share}
+use Rattle.steps.specs.Program.{done, _>>=_, note}
 use Rattle.steps.specs.Recorder.{seen, observed}
-use Rattle.steps.specs.Machine.{exec, ended, Went}
+use Rattle.steps.specs.Machine.{exec, ended}
 use Rattle.steps.proofs.Machine.{then-runs, done-runs}
 use Rattle.product.specs.Product.{product}
 use Rattle.sbox.specs.Sbox.{constant}

@@ -1,12 +1,12 @@
 -- The laws of the machine: one program after another, loops, and a run as a whole.
-use mathlib.Core.Path.{_≡_, refl, ap, sym, _∙_}
+use mathlib.Core.Path.{_≡_, refl, _∙_}
 use mathlib.Core.List.{List, [], _∷_}
 use Prim.Native.Nat.{ℕ, zero, suc, _+_, _-_, _≤_, _<_}
 use native.Mathlib.Numerals.{add-one}
 use native.Mathlib.Omega.{arith}
 use lib.ListN.{length, getD, drop, length-map}
 use Rattle.steps.specs.declared.counts.Counts.{Counts}
-use Rattle.steps.specs.Program.{Run, done, step, draw, mark, _>>=_, loop, for, first, later, Entry, result, trace, draws, products}
+use Rattle.steps.specs.Program.{Run, done, step, draw, mark, _>>=_, loop, for, first, later, result, trace, draws, products}
 use Rattle.steps.specs.Watch.{values, watched}
 use Rattle.steps.specs.Recorder.{seen, observed, AllBelow}
 use Rattle.steps.specs.Machine.{oneProduct, oneDraw, oneStep, zeroCounts, Ended, ended, exec, onward, Went, Whole}

@@ -1,7 +1,6 @@
 -- `field::inverse` meets its contract. The invariant: the product times the squares that are still to come is the inverse.
-use mathlib.Core.Logic.{⊎-elim}
 use mathlib.Core.Path.{_≡_, ap, ap₂, sym, _∙_}
-use Prim.Native.Nat.{ℕ, _+_, _-_, _≤_}
+use Prim.Native.Nat.{_+_, _-_, _≤_}
 use native.Mathlib.Omega.{arith}
 use Rattle.field.specs.Power.{square, inverse}
 use Rattle.field.proofs.Inverses.{field-of, chain, inverse-chain}

@@ -1,5 +1,5 @@
 -- `product::pairs` meets its contract: at each width it is `rows` there.
-use mathlib.Core.Path.{_≡_, refl, sym}
+use mathlib.Core.Path.{_≡_, refl}
 use mathlib.Core.Logic.{inl, inr}
 use borrow.Author.Needs.{needs}
 use Rattle.field.proofs.Turns.{width-6}

@@ -1,7 +1,6 @@
 -- `product::row` meets its contract: a loop over the pairs of share i.
 use mathlib.Core.Path.{refl}
 use Prim.Native.Nat.{_+_, _-_}
-use native.Mathlib.Omega.{arith}
 use borrow.Author.Needs.{needs}
 use Rattle.steps.specs.Tape.{elements}
 use Rattle.steps.specs.Loop.{Going, each}

@@ -1,7 +1,6 @@
 -- `product::starts` meets its contract: a loop over the shares.
 use mathlib.Core.Path.{refl}
 use Prim.Native.Nat.{_-_}
-use native.Mathlib.Omega.{arith}
 use borrow.Author.Needs.{needs}
 use Rattle.steps.specs.Tape.{elements}
 use Rattle.steps.specs.Loop.{Going, each}

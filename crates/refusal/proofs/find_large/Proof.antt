@@ -1,5 +1,5 @@
 -- `refusal::find_large` meets its contract. The invariant: the first entry that is too large is not passed yet.
-use Prim.Native.Nat.{_-_, _<_, _≤_}
+use Prim.Native.Nat.{_-_, _≤_}
 use native.Mathlib.Omega.{arith}
 use lib.ListN.{length}
 use Rattle.refusal.specs.Large.{firstLarge}

@@ -1,5 +1,4 @@
 -- `refusal::first_past` meets its contract. The invariant: the first number that is too large is not passed yet.
-use mathlib.Core.Path.{_≡_}
 use Prim.Native.Nat.{_-_, _≤_}
 use native.Mathlib.Omega.{arith}
 use lib.ListN.{length}

@@ -1,5 +1,5 @@
 -- `decomposition::polynomial::next_power` meets its contract.
-use mathlib.Core.Path.{_≡_, sym, ap, _∙_}
+use mathlib.Core.Path.{sym, ap, _∙_}
 use borrow.Author.Needs.{needs}
 use Rattle.field.specs.Power.{square}
 use Rattle.field.proofs.Polynomial.{follows-power}

@@ -1,5 +1,4 @@
 -- `multiply_rows` meets its contract: the product of two rows, put into a third.
-use native.Mathlib.Omega.{arith}
 use borrow.Author.Needs.{needs}
 use Rattle.sbox.proofs.TableRuns.{multiply-runs, row-part, row-long}
 use Rattle.sbox.proofs.rows.multiply_rows.Statement.{statement}

@@ -6,7 +6,6 @@ use native.Mathlib.Omega.{arith}
 use borrow.Author.Needs.{needs}
 use borrow.Author.Tests.{eq-eqb, ne-eqb}
 use lib.ListN.{length}
-use Rattle.refusal.specs.Outcome.{test}
 use Rattle.refusal.specs.Range.{oneTo}
 use Rattle.steps.specs.Operations.{splitOutcome, splitShares}
 use Rattle.refusal.proofs.Outcome.{test-fails, test-passes, refuses, succeeds}

@@ -1,7 +1,7 @@
 -- The programs of the code's table are those of the definition: they run in lockstep, and the rows of the table are the sharings made so far.
 use mathlib.Core.Path.{_≡_, refl, sym, ap, ap₂, _∙_}
 use mathlib.Core.Bool.{Bool, true, false, cond}
-use mathlib.Core.List.{List, [], _∷_, _++_, append-nil, append-assoc}
+use mathlib.Core.List.{List, [], _∷_, _++_, flatten, append-nil, append-assoc}
 use Prim.Native.Nat.{ℕ, zero, suc, _+_, _-_, _*_, _≤_, _<_}
 use native.Mathlib.Nat.{sub-zero}
 use native.Mathlib.Numerals.{add-one}
@@ -11,7 +11,7 @@ use lib.Dec.{eqb}
 use lib.ListN.{length, getD, set, replicate, length-append, length-set, List·getD-append}
 use lib.Seq.{getD-set-same, getD-set-other, getD-append-add, getD-at}
 use Rattle.xor.specs.Xor.{_⊕_}
-use Rattle.field.specs.Polynomial.{exponents}
+use Rattle.field.specs.Polynomial.{classes, exponents}
 use Rattle.steps.specs.Program.{Run, done, mark, one, _>>=_, note, loop, for}
 use Rattle.steps.specs.Sharing.{share}
 use Rattle.steps.proofs.Program.{bind-bind, for-same, for-split, for-turn, for-end}
@@ -22,7 +22,7 @@ use Rattle.product.specs.Product.{start, pair, row, product}
 use Rattle.sbox.specs.Sbox.{byShare, nth, constant, square, squares, thirdClass, powers, term, polynomial, polynomials, products, total, sbox}
 use Rattle.sbox.specs.Table.{cell, setCell, put}
 use Rattle.sbox.specs.Table as table
-use Rattle.sbox.specs.TableSteps.{squareShare, squareRow, multiplyRows, powerClass, thirdRows, powerRows, termAt, polynomialShare, polynomialRow}
+use Rattle.sbox.specs.TableSteps.{squareShare, squareRow, multiplyRows, exponentOf, firstFactor, secondFactor, powerClass, thirdRows, powerRows, termAt, polynomialShare, polynomialRow}
 use Rattle.sbox.specs.TableSteps.{productRow, addRow, totalShare, fillRows, sboxRows}
 use Rattle.sbox.proofs.Holds.{Holds, holds-none, holds-row, holds-open, holds-last, holds-set, holds-put}
 
@@ -114,38 +114,39 @@ module _ (n s : ℕ) (nine : s ≤ 9) where
       lockstep-done (rw append-assoc at (q .0), ap suc (q .1)))))
 
   -- the class of a product
-  lockstep-class : {t : List ℕ} (k : ℕ) (l : List (List ℕ)) (x y z last : ℕ) → length l ≡ z → z + k ≡ last → last < 28 → Holds s t l
-      → Lockstep (λ t′ m. Holds s t′ (l ++ m) × (length m ≡ suc k)) (powerClass n s x y z last t) (product n s (nth l x) (nth l y) >>= squares n s k)
+  lockstep-class : {t : List ℕ} (k : ℕ) (l : List (List ℕ)) (x y z last : ℕ) → length l ≡ z → z + k ≡ last → last < 28
+      → firstFactor (exponentOf n z) ≡ x → secondFactor (exponentOf n z) ≡ y → Holds s t l
+      → Lockstep (λ t′ m. Holds s t′ (l ++ m) × (length m ≡ suc k)) (powerClass n s z last t) (product n s (nth l x) (nth l y) >>= squares n s k)
   unfolding powerClass for
-  lockstep-class k l x y z last e e′ hl h =
+  lockstep-class k l x y z last e e′ hl ex ey h =
       let d : last - length l ≡ k = omega arith in
-      rw (← e) (lockstep-bind (lockstep-multiply l x y (omega arith) h) (λ t′ c p. rw d (lockstep-squares k l c (omega arith) p)))
+      rw (ex, ey, ← e) (lockstep-bind (lockstep-multiply l x y (omega arith) h) (λ t′ c p. rw d (lockstep-squares k l c (omega arith) p)))
 
   -- the class of x ^ 11, and all powers
   lockstep-third : {t : List ℕ} (b : Bool) → eqb n 6 ≡ b → (xs ys : List (List ℕ)) → length xs ≡ n → length ys ≡ n → Holds s t (xs ++ ys)
       → Lockstep (λ t′ ws. Holds s t′ ws × (length ws ≡ cond b (3 * n) (2 * n))) (thirdRows b n s t)
       (thirdClass b n s xs ys >>= (λ zs. done (xs ++ (ys ++ zs))))
-  unfolding thirdRows thirdClass _>>=_
+  unfolding thirdRows thirdClass exponents classes flatten firstFactor secondFactor _>>=_
   lockstep-third true e xs ys lx ly h =
       let six : n ≡ 6 = eqb-true n 6 e in
       let l : length (xs ++ ys) ≡ 12 = length-append xs ys ∙ omega arith in
       let at-6 : nth (xs ++ ys) 6 ≡ nth ys 0 = let p : 6 ≡ length xs + 0 = omega arith in rw p (getD-append-add xs ys 0 []) in
       let at-3 : nth (xs ++ ys) 3 ≡ nth xs 3 = List·getD-append xs ys [] 3 (omega arith) in
-      lockstep-right (rw (at-6, at-3) at (lockstep-class (n - 1) (xs ++ ys) 6 3 12 17 l (omega arith) (omega arith) h)) (λ t′ zs p.
+      lockstep-right (rw (at-6, at-3) at (lockstep-class (n - 1) (xs ++ ys) 6 3 12 17 l (omega arith) (omega arith) (rw six refl) (rw six refl) h)) (λ t′ zs p.
       lockstep-done (rw append-assoc at (p .0), simp length-append (omega arith)))
   lockstep-third {t} false e xs ys lx ly h =
       lockstep-done {a = t} {b = xs ++ (ys ++ [])} (rw append-nil h, simp (append-nil, length-append) (omega arith))
 
-  lockstep-powers : {t : List ℕ} (x : List ℕ) → 1 < n → 2 * n ≤ 28 → Holds s t (x ∷ [])
+  lockstep-powers : {t : List ℕ} (x : List ℕ) → 1 < n → 2 * n ≤ 28 → exponentOf n n ≡ 3 → Holds s t (x ∷ [])
       → Lockstep (λ t′ ws. Holds s t′ ws × (length ws ≡ cond (eqb n 6) (3 * n) (2 * n))) (powerRows n s t) (powers n s x)
-  unfolding powerRows powers for
-  lockstep-powers {t} x wide few h =
+  unfolding powerRows powers firstFactor secondFactor for
+  lockstep-powers {t} x wide few begins h =
       let first : Lockstep (λ t′ m. Holds s t′ m × (length m ≡ suc (n - 1))) (for 0 (n - 1) (squareRow n s) t) (squares n s (n - 1) x) =
       rw sub-zero (lockstep-squares (n - 1) [] x (omega arith) h) in
       lockstep-bind first (λ t₁ xs p.
       let third : List (List ℕ) → Run (List (List ℕ)) = λ ys. thirdClass (eqb n 6) n s xs ys >>= (λ zs. done (xs ++ (ys ++ zs))) in
       rw (← bind-bind (product n s (nth xs 0) (nth xs 1)) (squares n s (n - 1)) third)
-      (lockstep-bind (lockstep-class (n - 1) xs 0 1 n (2 * n - 1) (omega arith) (omega arith) (omega arith) (p .0)) (λ t₂ ys q.
+      (lockstep-bind (lockstep-class (n - 1) xs 0 1 n (2 * n - 1) (omega arith) (omega arith) (omega arith) (rw begins refl) (rw begins refl) (p .0)) (λ t₂ ys q.
       lockstep-third (eqb n 6) refl xs ys (omega arith) (omega arith) (q .0))))
 
   -- ---- the polynomials
@@ -295,11 +296,11 @@ module _ (n s : ℕ) (nine : s ≤ 9) where
           rw eq (lockstep-sums t₂ ws bs cs ew (q .1 ∙ eq) (r .1 ∙ ep) (r .0))))))
 
       -- the program of the code is that of the definition
-      pub rows-same : (x y : List ℕ) → 1 < n → 2 * n ≤ 28 → cond (eqb n 6) (3 * n) (2 * n) ≡ k → ((i : ℕ) → i < s → share x i ≡ share y i)
+      pub rows-same : (x y : List ℕ) → 1 < n → 2 * n ≤ 28 → exponentOf n n ≡ 3 → cond (eqb n 6) (3 * n) (2 * n) ≡ k → ((i : ℕ) → i < s → share x i ≡ share y i)
           → sboxRows n k h s rec x ≡ sbox n s qs ps y
       unfolding sboxRows fillRows sbox
-      rows-same x y wide narrow made same =
+      rows-same x y wide narrow begins made same =
           let t₀ = put s (replicate 252 0) 0 x in
           let first : Holds s t₀ (y ∷ []) = holds-last [] x y same (holds-put [] x nine (omega arith) holds-none) in
           lockstep-same
-          (rw bind-bind (lockstep-bind (lockstep-powers y wide narrow first) (λ t₁ ws p. rw bind-bind (lockstep-forms t₁ ws (p .1 ∙ made) (p .0)))))
+          (rw bind-bind (lockstep-bind (lockstep-powers y wide narrow begins first) (λ t₁ ws p. rw bind-bind (lockstep-forms t₁ ws (p .1 ∙ made) (p .0)))))

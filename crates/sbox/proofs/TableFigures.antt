@@ -1,15 +1,21 @@
 -- What the code's loops count is what the figures of the S-box say.
 use mathlib.Core.Path.{_≡_, refl}
 use mathlib.Core.Logic.{inl, inr}
+use mathlib.Core.Bool.{Bool, true, false, cond}
 use Prim.Native.Nat.{ℕ, _+_, _<_}
 use native.Mathlib.Nat.{sub-zero}
 use native.Mathlib.Omega.{arith}
 use borrow.Author.Tests.{eq-eqb, ne-eqb}
+use lib.Dec.{eqb}
+use lib.ListN.{length}
 use Rattle.field.specs.Mul.{Width}
+use Rattle.field.specs.Polynomial.{exponents}
+use Rattle.field.proofs.Polynomial.{length-exponents-4, length-exponents-6}
 use Rattle.steps.specs.Loop.{each}
 use Rattle.product.specs.Counts.{eachPair}
 use Rattle.product.proofs.Counts.{pairs-is, pairs-twice}
 use Rattle.sbox.specs.Figures.{sboxProducts, sboxDraws, sboxSteps}
+use Rattle.sbox.specs.TableSteps.{firstFactor, secondFactor}
 use Rattle.sbox.specs.TableCounts.{atSix, powerProducts, powerDraws, powerSteps, totalSteps, fillProducts, fillDraws, fillSteps}
 
 pub width-range : (n : ℕ) → Width n → (3 < n) × (n < 7)
@@ -23,6 +29,24 @@ at-six {n} e x = rw (eq-eqb n 6 e)
 pub not-at-six : {n : ℕ} → (n ≡ 6 → ⊥) → (x : ℕ) → atSix n x ≡ 0
 unfolding atSix
 not-at-six {n} e x = rw (ne-eqb n 6 e)
+
+-- ---- the rows of a class
+
+pub factors-small : (e : ℕ) → (firstFactor e < 28) × (secondFactor e < 28)
+unfolding firstFactor secondFactor
+factors-small e = go (eqb e 3)
+  where
+    go : (b : Bool) → (cond b 0 6 < 28) × (cond b 1 3 < 28)
+    go true = (omega arith, omega arith)
+    go false = (omega arith, omega arith)
+
+-- the second class is in the list, and at width 6 the third
+pub second-listed : (n : ℕ) → Width n → n + 1 < length (exponents n)
+second-listed n (inl e) = rw e (omega (arith, length-exponents-4))
+second-listed n (inr e) = rw e (omega (arith, length-exponents-6))
+
+pub third-listed : {n : ℕ} → n ≡ 6 → 12 + 1 < length (exponents n)
+third-listed e = rw e (omega (arith, length-exponents-6))
 
 -- all that is taken at width n with k powers and h products
 pub record Taken (n k h s : ℕ) : Type 0 where

@@ -2,21 +2,21 @@
 use mathlib.Core.Path.{_≡_, refl, ap, _∙_}
 use mathlib.Core.Logic.{inl, inr}
 use mathlib.Core.Bool.{cond}
-use mathlib.Core.List.{List}
+use mathlib.Core.List.{List, flatten}
 use Prim.Native.Nat.{ℕ, suc, _+_, _*_, _≤_, _<_}
 use native.Mathlib.Omega.{arith}
 use lib.Dec.{eqb}
 use lib.ListN.{length, getD, drop}
 use lib.Seq.{getD-take, getD-drop}
 use Rattle.field.specs.Mul.{Width}
-use Rattle.field.specs.Polynomial.{exponents}
+use Rattle.field.specs.Polynomial.{classes, exponents}
 use Rattle.field.proofs.Polynomial.{length-exponents-4, length-exponents-6}
 use Rattle.steps.specs.Sharing.{share}
 use Rattle.decomposition.specs.Layout.{termsOf}
 use Rattle.sbox.specs.Sbox.{nth, sbox}
 use Rattle.sbox.specs.Form.{basisSize}
 use Rattle.sbox.specs.Polynomials.{polynomialsOf, basisIn, solutionIn}
-use Rattle.sbox.specs.TableSteps.{sboxRows}
+use Rattle.sbox.specs.TableSteps.{exponentOf, sboxRows}
 use Rattle.sbox.proofs.Record.{length-polynomials, nth-polynomials}
 use Rattle.sbox.proofs.Lockstep.{Reads, rows-same}
 
@@ -42,20 +42,21 @@ record Sizes (n k h : ℕ) : Type 0 where
   narrow : 2 * n ≤ 28
   some : 0 < h
   few : k + (h + (h + 1)) + h ≤ 28
+  begins : exponentOf n n ≡ 3
   made : cond (eqb n 6) (3 * n) (2 * n) ≡ k
 
 sizes : (n k h : ℕ) → Width n → length (exponents n) ≡ k + 1 → basisSize n ≡ h → Sizes n k h
-unfolding basisSize termsOf
+unfolding basisSize termsOf exponents classes flatten
 sizes n k h (inl e) ek eh =
     let p = rw e at ek in
     let q = rw e at eh in
     let eight : k ≡ 8 = omega (arith, length-exponents-4) in
-    rw (e, eight, ← q) (record { wide = omega arith; narrow = omega arith; some = omega arith; few = omega arith; made = refl })
+    rw (e, eight, ← q) (record { wide = omega arith; narrow = omega arith; some = omega arith; few = omega arith; begins = refl; made = refl })
 sizes n k h (inr e) ek eh =
     let p = rw e at ek in
     let q = rw e at eh in
     let eighteen : k ≡ 18 = omega (arith, length-exponents-6) in
-    rw (e, eighteen, ← q) (record { wide = omega arith; narrow = omega arith; some = omega arith; few = omega arith; made = refl })
+    rw (e, eighteen, ← q) (record { wide = omega arith; narrow = omega arith; some = omega arith; few = omega arith; begins = refl; made = refl })
 
 -- ---- the theorem
 
@@ -74,4 +75,4 @@ rows-are-sbox n k h s w ek eh nine rec x y same =
     rw (ek, eh)
     (rows-same n s nine k h (z .some) (z .few) rec qs ps (omega arith) lq (omega arith)
     (λ i l. reads-from k h 0 6 rec (omega arith) i (omega arith))
-    (λ i l. reads-from k (suc h) h (6 + h * m) rec refl i (omega arith)) x y (z .wide) (z .narrow) (z .made) same)
+    (λ i l. reads-from k (suc h) h (6 + h * m) rec refl i (omega arith)) x y (z .wide) (z .narrow) (z .begins) (z .made) same)

@@ -1,12 +1,13 @@
 -- The steps of Sbox.antt as the code lays them out in its table: the sharings are rows, in the order in which they are made, first the k powers, then
 -- the h polynomials of the basis and the h + 1 of the p, then the h products. Only the proofs of the code use these programs.
-use mathlib.Core.Bool.{Bool, true, false}
+use mathlib.Core.Bool.{Bool, true, false, cond}
 use mathlib.Core.List.{List}
 use Prim.Native.Nat.{ℕ, _+_, _-_, _*_}
 use lib.Dec.{eqb}
 use lib.ListN.{getD, replicate}
 use Rattle.xor.specs.Xor.{_⊕_}
 use Rattle.field.specs.Mul.{mul}
+use Rattle.field.specs.Polynomial.{exponents}
 use Rattle.steps.specs.Program.{Run, done, one, _>>=_, note, for}
 use Rattle.product.specs.Product.{product}
 use Rattle.sbox.specs.Sbox.{byShare, constant}
@@ -30,22 +31,33 @@ multiplyRows n s x y z t = do
   c ← product n s (row t x) (row t y)
   done (put s t z c)
 
--- the class of a product: that of rows x and y goes to row z, and each row from z on is squared into the next, up to row l
-unfoldable pub powerClass : ℕ → ℕ → ℕ → ℕ → ℕ → ℕ → List ℕ → Run (List ℕ)
-powerClass n s x y z l t = do
-  t′ ← multiplyRows n s x y z t
+-- the exponent of the power in row r
+abbrev pub exponentOf : ℕ → ℕ → ℕ
+exponentOf n r = getD (exponents n) (r + 1) 0
+
+-- the rows of the two factors of x ^ e that begins a class: x ^ 3 = x · x ^ 2, x ^ 11 = x ^ 3 · x ^ 8
+unfoldable pub firstFactor : ℕ → ℕ
+firstFactor e = cond (eqb e 3) 0 6
+
+unfoldable pub secondFactor : ℕ → ℕ
+secondFactor e = cond (eqb e 3) 1 3
+
+-- the class that begins at row z: the product of its factors goes to row z, and each row from z on is squared into the next, up to row l
+unfoldable pub powerClass : ℕ → ℕ → ℕ → ℕ → List ℕ → Run (List ℕ)
+powerClass n s z l t = do
+  t′ ← multiplyRows n s (firstFactor (exponentOf n z)) (secondFactor (exponentOf n z)) z t
   for z l (squareRow n s) t′
 
--- at width 6, the class of x ^ 11 = x ^ 3 · x ^ 8
+-- at width 6, the class of x ^ 11
 unfoldable pub thirdRows : Bool → ℕ → ℕ → List ℕ → Run (List ℕ)
-thirdRows true n s t = powerClass n s 6 3 12 17 t
+thirdRows true n s t = powerClass n s 12 17 t
 thirdRows false n s t = done t
 
 -- the powers of row 0
 unfoldable pub powerRows : ℕ → ℕ → List ℕ → Run (List ℕ)
 powerRows n s t = do
   t₁ ← for 0 (n - 1) (squareRow n s) t
-  t₂ ← powerClass n s 0 1 n (2 * n - 1) t₁
+  t₂ ← powerClass n s n (2 * n - 1) t₁
   thirdRows (eqb n 6) n s t₂
 
 -- ---- polynomials

@@ -1,7 +1,10 @@
 // The powers of row 0, in the order of the exponent list: each class is squared up from its first row.
+ghost use mathlib.Core.Path.{_≡_};
 ghost use Prim.Native.Nat.{_+_, _-_, _*_, _<_, _≤_};
 ghost use lib.Dec.{eqb};
+ghost use lib.ListN.{length};
 ghost use Rattle.field.specs.Mul.{Width};
+ghost use Rattle.field.specs.Polynomial.{exponents};
 ghost use Rattle.steps.specs.Tape.{elements};
 ghost use Rattle.steps.specs.Machine.{Ready, Went};
 ghost use Rattle.steps.specs.Program.{for};
@@ -95,12 +98,24 @@ fn square_rows(
     n
 }
 
-// The class of a product: that of rows x and y goes to row z, and each row from z on is squared into the next, up to row `last`.
+// The row of the first factor of x ^ e, with which a class begins: x ^ 3 = x · x ^ 2, x ^ 11 = x ^ 3 · x ^ 8.
+fn first_factor(e: u8) -> usize
+    ensures { λ r. ⌜ r ≡ spec.firstFactor e ⌝ }
+{
+    if e == 3 { 0 } else { 6 }
+}
+
+// The row of the second factor.
+fn second_factor(e: u8) -> usize
+    ensures { λ r. ⌜ r ≡ spec.secondFactor e ⌝ }
+{
+    if e == 3 { 1 } else { 3 }
+}
+
+// The class that begins at row z: the product of its factors goes to row z, and each row from z on is squared into the next, up to row `last`.
 fn power_class(
     width: u32,
     s: usize,
-    x: usize,
-    y: usize,
     z: usize,
     last: usize,
     random: &[u8],
@@ -110,17 +125,20 @@ fn power_class(
     n: Counts,
 ) -> Counts
     requires { ⌜ Width width ⌝ }
-    requires { ⌜ (x < 28) × (y < 28) × (z < 28) × (last < 28) × (s ≤ 9) ⌝ }
+    requires { ⌜ (z + 1 < length (exponents width)) × (z < 28) × (last < 28) × (s ≤ 9) ⌝ }
     requires { ⌜ Ready 1 (productDraws s) (productSteps s + squareSteps s z last) n (elements width (now random)) (now watch) (now values) ⌝ }
     ensures { λ w. ⌜ Went 1 (productDraws s) (productSteps s + squareSteps s z last) (elements width (now (random .entry))) (now (watch .entry))
-        (spec.powerClass width s x y z last (now (t .entry)))
+        (spec.powerClass width s z last (now (t .entry)))
         n (now (values .entry)) (now (t .exit)) w (now (values .exit)) ⌝ }
 {
+    let e = field::exponent(width, z + 1);
+    let x = first_factor(e);
+    let y = second_factor(e);
     let n = multiply_rows(width, s, x, y, z, random, watch, &mut *values, &mut *t, n);
     square_rows(width, s, z, last, random, watch, values, t, n)
 }
 
-// At width 6, the class of x ^ 11 = x ^ 3 · x ^ 8.
+// At width 6, the class of x ^ 11.
 fn third_class(
     width: u32,
     s: usize,
@@ -140,13 +158,13 @@ fn third_class(
         n (now (values .entry)) (now (t .exit)) w (now (values .exit)) ⌝ }
 {
     if width == 6 {
-        power_class(width, s, 6, 3, 12, 17, random, watch, values, t, n)
+        power_class(width, s, 12, 17, random, watch, values, t, n)
     } else {
         n
     }
 }
 
-// The powers of row 0: the class of x, of x ^ 3 = x · x ^ 2 and, at width 6, of x ^ 11.
+// The powers of row 0: the class of x, of x ^ 3 and, at width 6, of x ^ 11.
 pub fn powers(
     width: u32,
     s: usize,
@@ -168,8 +186,6 @@ pub fn powers(
     let n = power_class(
         width,
         s,
-        0,
-        1,
         l,
         2 * l - 1,
         random,

@@ -4,7 +4,7 @@ use borrow.Author.Needs.{needs}
 use Rattle.steps.proofs.Machine.{then-runs}
 use Rattle.sbox.specs.TableSteps as spec
 use Rattle.sbox.specs.TableCounts.{powerProducts, powerDraws, powerSteps}
-use Rattle.sbox.proofs.TableFigures.{width-range}
+use Rattle.sbox.proofs.TableFigures.{width-range, second-listed}
 use Rattle.sbox.proofs.power_rows.powers.Statement.{statement}
 use Rattle.sbox.proofs.power_rows.powers.Tie as tie
 
@@ -27,7 +27,8 @@ power-class-requires : tie.Need-power-class-requires
 unfolding powerProducts powerDraws powerSteps
 power-class-requires c κs =
     let p = c .before .before .before .before .before .before .before .before .before .before .pre in
-    (p .0, (omega (arith, width-range _ (p .0)), omega (arith, p .1 .1)))
+    let w = width-range _ (p .0) in
+    (p .0, ((second-listed _ (p .0), omega (arith, w), omega (arith, w), p .1 .0), omega (arith, p .1 .1)))
 
 third-class-requires : tie.Need-third-class-requires
 unfolding powerProducts powerDraws powerSteps

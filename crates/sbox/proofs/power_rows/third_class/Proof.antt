@@ -5,14 +5,14 @@ use borrow.Author.Needs.{needs}
 use borrow.Author.Tests.{eq-eqb, ne-eqb}
 use Rattle.steps.specs.Machine.{exec}
 use Rattle.sbox.specs.TableSteps as spec
-use Rattle.sbox.proofs.TableFigures.{at-six, not-at-six}
+use Rattle.sbox.proofs.TableFigures.{at-six, not-at-six, third-listed}
 use Rattle.sbox.proofs.power_rows.third_class.Statement.{statement}
 use Rattle.sbox.proofs.power_rows.third_class.Tie as tie
 
 power-class-requires : tie.Need-power-class-requires
 power-class-requires c κs =
     let e = c .before .before .if1 .taken in
-    (search needs, (omega arith, simp (at-six e) at (c .before .before .before .before .before .before .pre .1 .1)))
+    (search needs, ((third-listed e, omega arith, omega arith, omega arith), simp (at-six e) at (c .before .before .before .before .before .before .pre .1 .1)))
 
 same-length : tie.Need-same-length
 same-length c = search needs

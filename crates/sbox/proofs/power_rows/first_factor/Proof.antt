@@ -1,0 +1,16 @@
+-- `first_factor` meets its contract.
+use borrow.Author.Tests.{eq-eqb, ne-eqb}
+use Rattle.sbox.specs.TableSteps.{firstFactor}
+use Rattle.sbox.proofs.power_rows.first_factor.Statement.{statement}
+use Rattle.sbox.proofs.power_rows.first_factor.Tie as tie
+
+returns : tie.Need-returns
+unfolding firstFactor
+returns c = rw (eq-eqb _ 3 (c .if1 .taken))
+
+returns-2 : tie.Need-returns-2
+unfolding firstFactor
+returns-2 c = rw (ne-eqb _ 3 (c .if1 .left))
+
+pub first-factor-spec : {M : Type 1} → statement M
+first-factor-spec = tie.close (tie.spec returns returns-2)

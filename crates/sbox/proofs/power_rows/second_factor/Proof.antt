@@ -1,0 +1,16 @@
+-- `second_factor` meets its contract.
+use borrow.Author.Tests.{eq-eqb, ne-eqb}
+use Rattle.sbox.specs.TableSteps.{secondFactor}
+use Rattle.sbox.proofs.power_rows.second_factor.Statement.{statement}
+use Rattle.sbox.proofs.power_rows.second_factor.Tie as tie
+
+returns : tie.Need-returns
+unfolding secondFactor
+returns c = rw (eq-eqb _ 3 (c .if1 .taken))
+
+returns-2 : tie.Need-returns-2
+unfolding secondFactor
+returns-2 c = rw (ne-eqb _ 3 (c .if1 .left))
+
+pub second-factor-spec : {M : Type 1} → statement M
+second-factor-spec = tie.close (tie.spec returns returns-2)

@@ -2,10 +2,10 @@
 -- too large, if any, at the same places, give the same answer, whatever the shares and the random elements; and what they hand back are the paper's
 -- figures.
 use mathlib.Core.Path.{_≡_, sym, ap, _∙_}
-use mathlib.Core.Bool.{Bool, _&&_}
+use mathlib.Core.Bool.{Bool}
 use mathlib.Core.List.{List, [], _∷_}
 use Prim.Native.Nat.{ℕ, _*_}
-use lib.Dec.{leb, eqb}
+use lib.Dec.{eqb}
 use lib.ListN.{length, length-replicate}
 use Rattle.xor.specs.Sum.{join, Small}
 use Rattle.refusal.specs.Outcome.{Outcome, done, andThen}
@@ -14,7 +14,7 @@ use Rattle.refusal.proofs.Outcome.{then-passed, done-values, then-alike}
 use Rattle.refusal.proofs.Large.{large-same}
 use Rattle.steps.specs.Tape.{elements, bytesFor}
 use Rattle.steps.proofs.Tape.{elements-length}
-use Rattle.sbox.specs.Operations.{testSteps}
+use Rattle.refusal.specs.Watch.{listFits, testSteps}
 use Rattle.layers.specs.State.{sharesOf}
 use Rattle.cipher.specs.Figures.{blockProducts, blockDraws, blockSteps}
 use Rattle.cipher.specs.Operations.{callProgram, callCounts, recordTests, argumentTests, callTests, blockOutcome, watchOutcome}
@@ -89,7 +89,7 @@ pub watch-answers : (r : List ℕ) (s : ℕ) {key key′ block block′ random r
     → watchOutcome r s key block random list values ≡ watchOutcome r s key′ block′ random′ list values
 unfolding watchOutcome
 watch-answers r s list values h =
-    answers-alike r s h (eqb (length list) values && leb (length list) 64) (λ c. testSteps (blockSteps s) list (done c))
+    answers-alike r s h (listFits (length list) values) (λ c. testSteps (blockSteps s) list (done c))
 
 -- a call that is done hands back the figures
 pub block-figures : (r : List ℕ) (s : ℕ) (key block random : List ℕ) (out : ℕ) → Small 8 key → Small 8 block

@@ -1,6 +1,6 @@
 -- The operations Block and Watch block. Shares lie one after the other, share 0 first: 10 bytes each of a key, 8 each of a block.
 use mathlib.Core.Path.{_≡_}
-use mathlib.Core.Bool.{Bool, true, _&&_}
+use mathlib.Core.Bool.{Bool, true}
 use mathlib.Core.List.{List, [], _∷_}
 use Prim.Native.Nat.{ℕ, _*_, _≤_, _<_}
 use lib.Dec.{leb, eqb}
@@ -17,7 +17,7 @@ use Rattle.steps.specs.Tape.{elements, bytesFor}
 use Rattle.decomposition.specs.Layout.{layout}
 use Rattle.decomposition.specs.Record.{widthOf, readOutcome, Accepted}
 use Rattle.decomposition.specs.Check.{recordForm, firstDifference}
-use Rattle.sbox.specs.Operations.{testSteps}
+use Rattle.refusal.specs.Watch.{listFits, testSteps}
 use Rattle.present.specs.Present.{table}
 use Rattle.layers.specs.State.{sharesOf, bytesOf}
 use Rattle.cipher.specs.Box.{blockProgram}
@@ -93,7 +93,7 @@ blockReport (Block·Refused number place) = refused number place
 -- the outcome, by the length of values: the list has as many numbers, and at most 64
 unfoldable pub watchOutcome : List ℕ → ℕ → List ℕ → List ℕ → List ℕ → List ℕ → ℕ → Outcome
 watchOutcome r s key block random list values =
-    andThen (callTests r s key block random (eqb (length list) values && leb (length list) 64))
+    andThen (callTests r s key block random (listFits (length list) values))
     (testSteps (blockSteps s) list
     (done (callCounts r s key block random)))
 

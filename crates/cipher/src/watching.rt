@@ -2,7 +2,7 @@
 ghost use mathlib.Core.Path.{_≡_};
 ghost use lib.ListN.{length};
 ghost use Rattle.refusal.specs.Outcome.{done, Answered};
-ghost use Rattle.sbox.specs.Operations.{testSteps};
+ghost use Rattle.refusal.specs.Watch.{testSteps};
 ghost use Rattle.cipher.specs.Figures.{blockSteps};
 ghost use Rattle.cipher.specs.Operations.{Callable, callCounts, watchReport, watchOutcome, watchOutput};
 use crate::checking::Tested;
@@ -10,7 +10,7 @@ use crate::checking::call_tests;
 use crate::counting::step_count;
 use crate::encryption::encrypt;
 use refusal::first_past;
-use sbox::watching::list_fits;
+use refusal::list_fits;
 use steps::bytes_for;
 
 // The answer of Watch block: how many masked products, random bytes and steps it took.

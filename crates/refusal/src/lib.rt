@@ -5,6 +5,7 @@ ghost use lib.Dec.{leb};
 ghost use lib.ListN.{length};
 ghost use Rattle.refusal.specs.Range.{oneTo};
 ghost use Rattle.refusal.specs.Large.{firstLarge};
+ghost use Rattle.refusal.specs.Watch.{listFits};
 
 // Whether x is one of the numbers 1 to `most`.
 pub fn one_to(most: usize, x: usize) -> bool
@@ -65,4 +66,14 @@ pub fn first_past(total: u32, list: &[u32]) -> usize
         i += 1;
     }
     i
+}
+
+// Whether a list of so many numbers has as many places for their values, and is not too long.
+pub fn list_fits(numbers: usize, places: usize) -> bool
+    ensures { λ r. ⌜ r ≡ listFits numbers places ⌝ }
+{
+    if numbers != places {
+        return false;
+    }
+    numbers <= 64
 }

@@ -1,7 +1,7 @@
 -- ANSWERS ALIKE. Two calls of S-box, or of Watch S-box, with the same record, share count, list and slice lengths, and with elements that are too large,
 -- if any, at the same places, give the same answer, whatever the shares and the random elements; and what they hand back are the paper's figures.
 use mathlib.Core.Path.{_≡_, refl, sym, ap, ap₂, _∙_}
-use mathlib.Core.Bool.{Bool, _&&_}
+use mathlib.Core.Bool.{Bool}
 use mathlib.Core.List.{List, [], _∷_, _++_}
 use Prim.Native.Nat.{ℕ, _+_, _^_}
 use native.Mathlib.Omega.{arith}
@@ -9,6 +9,7 @@ use lib.Dec.{leb, eqb}
 use lib.ListN.{length, length-append, length-replicate, List·getD-eq-default}
 use lib.Pow.{pow-pos}
 use Rattle.xor.specs.Sum.{join, Small}
+use Rattle.refusal.specs.Watch.{listFits, testSteps}
 use Rattle.refusal.specs.Outcome.{Outcome, done, andThen}
 use Rattle.refusal.specs.Large.{firstLarge, LargeAlike}
 use Rattle.refusal.proofs.Large.{all-small, large-same, alike-append, both-small}
@@ -17,7 +18,7 @@ use Rattle.steps.specs.Tape.{elements, bytesFor}
 use Rattle.steps.proofs.Tape.{elements-length}
 use Rattle.sbox.specs.Figures.{sboxProducts, sboxDraws, sboxSteps}
 use Rattle.decomposition.specs.Record.{widthOf, readOutcome}
-use Rattle.sbox.specs.Operations.{callProgram, callCounts, argumentTests, callTests, sboxOutcome, testSteps, watchOutcome, Callable}
+use Rattle.sbox.specs.Operations.{callProgram, callCounts, argumentTests, callTests, sboxOutcome, watchOutcome, Callable}
 use Rattle.sbox.proofs.Record.{accepted-record}
 use Rattle.sbox.proofs.Runs.{trace-length, draws-are, products-length}
 use Rattle.sbox.proofs.Calls.{tests-passed}
@@ -118,7 +119,7 @@ pub watch-answers : (r : List ℕ) (s : ℕ) {shares shares′ random random′ 
     → watchOutcome r s shares random list values ≡ watchOutcome r s shares′ random′ list values
 unfolding watchOutcome
 watch-answers r s list values h =
-    answers-alike r s h (eqb (length list) values && leb (length list) 64) (λ c. testSteps (sboxSteps (widthOf r) s) list (done c))
+    answers-alike r s h (listFits (length list) values) (λ c. testSteps (sboxSteps (widthOf r) s) list (done c))
 
 -- a call that is done hands back the figures
 pub sbox-figures : (r : List ℕ) (s : ℕ) (shares random : List ℕ) (out : ℕ) {v : List ℕ}

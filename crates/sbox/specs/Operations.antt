@@ -1,13 +1,14 @@
 -- The operations S-box and Watch S-box. A sharing lies share 0 first.
 use mathlib.Core.Path.{_≡_}
-use mathlib.Core.Bool.{Bool, _&&_}
+use mathlib.Core.Bool.{Bool}
 use mathlib.Core.List.{List, [], _∷_, _++_}
 use Prim.Native.Nat.{ℕ, _^_, _≤_, _<_}
-use lib.Dec.{leb, eqb}
+use lib.Dec.{eqb}
 use lib.ListN.{length}
 use Rattle.refusal.specs.Outcome.{Outcome, done, refused, test, andThen}
 use Rattle.refusal.specs.Range.{oneTo}
-use Rattle.refusal.specs.Large.{firstLarge, testBelow}
+use Rattle.refusal.specs.Large.{testBelow}
+use Rattle.refusal.specs.Watch.{listFits, testSteps}
 use Rattle.steps.specs.Program.{Run, result, trace, draws, products}
 use Rattle.steps.specs.Watch.{watched}
 use Rattle.steps.specs.Sharing.{share}
@@ -72,14 +73,10 @@ sboxReport (Sbox·Refused number place) = refused number place
 
 -- ---- Watch S-box (record, s, shares, random, list, values)
 
--- all step numbers are below the total, else a refusal by 8, whose place is that of the first that is not
-abbrev pub testSteps : ℕ → List ℕ → Outcome → Outcome
-testSteps total list next = test (leb (length list) (firstLarge total list)) 8 (firstLarge total list) next
-
 -- the outcome, by the length of values: the list has as many numbers, and at most 64
 unfoldable pub watchOutcome : List ℕ → ℕ → List ℕ → List ℕ → List ℕ → ℕ → Outcome
 watchOutcome r s shares random list values =
-    andThen (callTests r s shares random (eqb (length list) values && leb (length list) 64))
+    andThen (callTests r s shares random (listFits (length list) values))
     (testSteps (sboxSteps (widthOf r) s) list
     (done (callCounts r s shares random)))
 

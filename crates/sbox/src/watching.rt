@@ -1,16 +1,16 @@
 // The operation Watch S-box.
 ghost use mathlib.Core.Path.{_≡_};
-ghost use mathlib.Core.Bool.{_&&_};
-ghost use lib.Dec.{leb, eqb};
 ghost use lib.ListN.{length};
 ghost use Rattle.refusal.specs.Outcome.{done, Answered};
+ghost use Rattle.refusal.specs.Watch.{testSteps};
 ghost use Rattle.sbox.specs.Figures.{sboxSteps};
-ghost use Rattle.sbox.specs.Operations.{Callable, callCounts, testSteps, watchReport, watchOutcome, watchOutput};
+ghost use Rattle.sbox.specs.Operations.{Callable, callCounts, watchReport, watchOutcome, watchOutput};
 use crate::calling::call;
 use crate::checking::Tested;
 use crate::checking::call_tests;
 use crate::figures::step_count;
 use refusal::first_past;
+use refusal::list_fits;
 use steps::bytes_for;
 
 // The answer of Watch S-box: how many masked products, random bytes and steps it took.
@@ -24,16 +24,6 @@ pub enum WatchAnswer {
         number: u8,
         place: usize,
     },
-}
-
-// Whether a list of so many numbers has as many places for their values, and is not too long.
-pub fn list_fits(numbers: usize, places: usize) -> bool
-    ensures { λ r. ⌜ r ≡ (eqb numbers places && leb numbers 64) ⌝ }
-{
-    if numbers != places {
-        return false;
-    }
-    numbers <= 64
 }
 
 // The masked S-box under a watch: value k is what the step whose number stands at place k of the list records.

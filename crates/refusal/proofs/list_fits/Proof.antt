@@ -1,7 +1,7 @@
--- `list_fits` meets its contract.
+-- `refusal::list_fits` meets its contract.
 use borrow.Author.Tests.{eq-eqb, ne-eqb}
-use Rattle.sbox.proofs.watching.list_fits.Statement.{statement}
-use Rattle.sbox.proofs.watching.list_fits.Tie as tie
+use Rattle.refusal.proofs.list_fits.Statement.{statement}
+use Rattle.refusal.proofs.list_fits.Tie as tie
 
 returns : tie.Need-returns
 returns c = rw (ne-eqb _ _ (c .if1 .taken))

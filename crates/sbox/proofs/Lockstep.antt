@@ -22,7 +22,8 @@ use Rattle.product.specs.Product.{start, pair, row, product}
 use Rattle.sbox.specs.Sbox.{byShare, nth, constant, square, squares, thirdClass, powers, term, polynomial, polynomials, products, total, sbox}
 use Rattle.sbox.specs.Table.{cell, setCell, put}
 use Rattle.sbox.specs.Table as table
-use Rattle.sbox.specs.TableSteps.{squareShare, squareRow, multiplyRows, exponentOf, firstFactor, secondFactor, powerClass, thirdRows, powerRows, termAt, polynomialShare, polynomialRow}
+use Rattle.sbox.specs.TableSteps.{squareShare, squareRow, multiplyRows, exponentOf, firstFactor, secondFactor, powerClass, thirdRows, powerRows}
+use Rattle.sbox.specs.TableSteps.{termAt, polynomialShare, polynomialRow}
 use Rattle.sbox.specs.TableSteps.{productRow, addRow, totalShare, fillRows, sboxRows}
 use Rattle.sbox.proofs.Holds.{Holds, holds-none, holds-row, holds-open, holds-last, holds-set, holds-put}
 

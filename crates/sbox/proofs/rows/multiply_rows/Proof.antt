@@ -41,9 +41,28 @@ returns : tie.Need-returns
 returns c =
     let a = c .before .before .before .before .before .before .before .before .before .before .before .before .before .before .before .before .args in
     let w = c .before .before .before .before .before .before .before .product in
-    record { runs = multiply-runs _ _ _ _ _ _ _ _ _ _ (row-part (a .t .now) (a .x)) (row-part (a .t .now) (a .y)) (w .ensures .runs) (search needs); took-products = search needs; took-draws = search needs; took-steps = search needs }
+    let x = row-part (a .t .now) (a .x) in
+    let y = row-part (a .t .now) (a .y) in
+    record {
+      runs = multiply-runs _ _ _ _ _ _ _ _ _ _ x y (w .ensures .runs) (search needs);
+      took-products = search needs;
+      took-draws = search needs;
+      took-steps = search needs;
+    }
 
 pub multiply-rows-spec : {M : Type 1} → statement M
 multiply-rows-spec =
     tie.close
-    (tie.spec mul-a mul-b sub-product part-product-start part-product-end sub-product-2 part-product-start-2 part-product-end-2 product-requires put-requires same-length returns)
+    (tie.spec
+    mul-a
+    mul-b
+    sub-product
+    part-product-start
+    part-product-end
+    sub-product-2
+    part-product-start-2
+    part-product-end-2
+    product-requires
+    put-requires
+    same-length
+    returns)

@@ -39,6 +39,7 @@ pub extern "C" fn ll_read(record: &[u8], answer: &mut [u64; 4])
     }
 }
 
+// Check hands nothing back.
 #[no_mangle]
 pub extern "C" fn ll_check(record: &[u8], table: &[u8], answer: &mut [u64; 4])
     ensures { λ u. ⌜ now (answer .exit) ≡ words (checkOutcome (now («record» .entry)) (now (table .entry))) ⌝ }
@@ -50,6 +51,7 @@ pub extern "C" fn ll_check(record: &[u8], table: &[u8], answer: &mut [u64; 4])
     }
 }
 
+// Fit hands nothing back; the work and the record are as `Fits` says.
 #[no_mangle]
 pub extern "C" fn ll_fit(
     width: u32,
@@ -69,6 +71,7 @@ pub extern "C" fn ll_fit(
     }
 }
 
+// House fit hands nothing back; the work and the record are as `HouseFits` says.
 #[no_mangle]
 pub extern "C" fn ll_house_fit(
     table: &[u8],
@@ -88,6 +91,7 @@ pub extern "C" fn ll_house_fit(
     }
 }
 
+// S-box hands back how many products, random bytes and steps it took.
 #[no_mangle]
 pub extern "C" fn ll_sbox(
     record: &[u8],
@@ -113,6 +117,7 @@ pub extern "C" fn ll_sbox(
     }
 }
 
+// Watch S-box hands back the same.
 #[no_mangle]
 pub extern "C" fn ll_sbox_watch(
     record: &[u8],
@@ -139,6 +144,7 @@ pub extern "C" fn ll_sbox_watch(
     }
 }
 
+// Block hands back how many products, random bytes and steps it took.
 #[no_mangle]
 pub extern "C" fn ll_block(
     record: &[u8],
@@ -165,6 +171,7 @@ pub extern "C" fn ll_block(
     }
 }
 
+// Watch block hands back the same.
 #[no_mangle]
 pub extern "C" fn ll_block_watch(
     record: &[u8],
@@ -202,6 +209,7 @@ pub extern "C" fn ll_block_watch(
     }
 }
 
+// Split hands nothing back.
 #[no_mangle]
 pub extern "C" fn ll_split(
     value: &[u8],
@@ -220,6 +228,7 @@ pub extern "C" fn ll_split(
     }
 }
 
+// Join hands nothing back.
 #[no_mangle]
 pub extern "C" fn ll_join(shares: &[u8], s: u32, out: &mut [u8], answer: &mut [u64; 4])
     ensures { λ u. ⌜ Reported (joinOutcome (length (now (shares .entry))) s (length (now (out .entry))))

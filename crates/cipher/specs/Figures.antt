@@ -4,22 +4,28 @@ use Rattle.sbox.specs.Figures.{sboxProducts, sboxDraws, sboxSteps}
 
 -- ---- of a round: 17 S-boxes, and 52 nibbles of each share and two of share 0 that are recorded
 
+-- its masked products
 unfoldable pub roundProducts : ℕ
 roundProducts = 17 * sboxProducts 4
 
+-- its random elements
 unfoldable pub roundDraws : ℕ → ℕ
 roundDraws s = 17 * sboxDraws 4 s
 
+-- its steps
 unfoldable pub roundSteps : ℕ → ℕ
 roundSteps s = 52 * s + 17 * sboxSteps 4 s + 2
 
 -- ---- of a block
 
+-- its masked products
 unfoldable pub blockProducts : ℕ
 blockProducts = 1054
 
+-- its random elements: 31 rounds of 17 S-boxes with s (s - 1) each
 unfoldable pub blockDraws : ℕ → ℕ
 blockDraws s = 527 * (s * (s - 1))
 
+-- its steps: 31 rounds and the last key addition, 16 nibbles a share
 unfoldable pub blockSteps : ℕ → ℕ
 blockSteps s = 31 * (52 * s + 17 * (7 * (s * s) + 50 * s) + 2) + 16 * s

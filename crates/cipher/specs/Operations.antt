@@ -9,6 +9,7 @@ use Rattle.xor.specs.Sum.{Small}
 use Rattle.refusal.specs.Outcome.{Outcome, done, refused, test, andThen}
 use Rattle.refusal.specs.Range.{oneTo}
 use Rattle.refusal.specs.Large.{testBelow}
+use Rattle.refusal.specs.Watch.{listFits, testSteps}
 use Rattle.steps.specs.Program.{Run, result, trace, draws, products}
 use Rattle.steps.specs.Watch.{watched}
 use Rattle.steps.specs.Sharing.{share}
@@ -17,7 +18,6 @@ use Rattle.steps.specs.Tape.{elements, bytesFor}
 use Rattle.decomposition.specs.Layout.{layout}
 use Rattle.decomposition.specs.Record.{widthOf, readOutcome, Accepted}
 use Rattle.decomposition.specs.Check.{recordForm, firstDifference}
-use Rattle.refusal.specs.Watch.{listFits, testSteps}
 use Rattle.present.specs.Present.{table}
 use Rattle.layers.specs.State.{sharesOf, bytesOf}
 use Rattle.cipher.specs.Box.{blockProgram}
@@ -69,6 +69,7 @@ argumentTests s key block random fits =
     (testBelow 16 0 (elements 4 random)
     (done []))))))
 
+-- those of the record come first
 unfoldable pub callTests : List ℕ → ℕ → List ℕ → List ℕ → List ℕ → Bool → Outcome
 callTests r s key block random fits = andThen (recordTests r) (argumentTests s key block random fits)
 
@@ -108,6 +109,7 @@ watchReport (Watch·Refused number place) = refused number place
 
 -- ---- where the tests are passed
 
+-- what the tests come to, as an outcome that hands nothing on
 abbrev pub testedReport : Tested → Outcome
 testedReport Passed = done []
 testedReport (Refused number place) = refused number place

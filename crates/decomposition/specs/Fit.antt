@@ -43,6 +43,7 @@ pub record NoneFound (L : Layout) (table basis out out' : List ℕ) (number plac
   pub none : NoDecomposition L table basis
   pub unchanged : out' ≡ out
 
+-- what an answer stands for there
 abbrev pub Found : Layout → List ℕ → List ℕ → List ℕ → List ℕ → Outcome → Type 0
 Found L table basis out out' (done values) = Written L table basis out' values
 Found L table basis out out' (refused number place) = NoneFound L table basis out out' number place
@@ -68,11 +69,12 @@ houseBasis = 0 ∷ 1 ∷ 1 ∷ 0 ∷ 0 ∷ 0 ∷ 0 ∷ 1 ∷ 0 ∷ []
 abbrev pub HouseFits : List ℕ → List ℕ → List ℕ → List ℕ → List ℕ → Outcome → Type 0
 HouseFits table work out work' out' r = Fits 4 table houseBasis work out work' out' r
 
--- the outcomes that the cases of the answers stand for
+-- the outcomes that the cases of the answers stand for: of Fit
 abbrev pub fitReport : FitAnswer → Outcome
 fitReport Done = done []
 fitReport (Refused number place) = refused number place
 
+-- and of House fit
 abbrev pub houseFitReport : HouseFitAnswer → Outcome
 houseFitReport HouseDone = done []
 houseFitReport (HouseRefused number place) = refused number place

@@ -12,6 +12,7 @@ use Rattle.decomposition.specs.declared.layouts.Layout.{Layout}
 abbrev pub known : ℕ → Bool
 known n = eqb n 4 || eqb n 6
 
+-- n is one of them
 abbrev pub Known : ℕ → Type 0
 Known n = known n ≡ true
 

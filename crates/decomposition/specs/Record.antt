@@ -19,13 +19,15 @@ use Rattle.decomposition.specs.declared.reading.ReadAnswer.the-variants.
 unfoldable pub headed : ℕ → List ℕ → List ℕ → List ℕ
 headed n basis p = 68 ∷ 67 ∷ 80 ∷ 0 ∷ 1 ∷ n ∷ (basis ++ p)
 
+-- the record at a layout
 abbrev pub recordOf : Layout → List ℕ → List ℕ → List ℕ
 recordOf L basis p = headed (L .width) basis p
 
--- the parts of a record
+-- the parts of a record: the basis
 abbrev pub basisOf : Layout → List ℕ → List ℕ
 basisOf L r = take (L .basis) (drop 6 r)
 
+-- and p1 to pt
 abbrev pub solutionOf : Layout → List ℕ → List ℕ
 solutionOf L r = drop (L .start) r
 

@@ -10,6 +10,7 @@ use crate::reading::ReadAnswer;
 use crate::reading::read;
 use refusal::first_large;
 
+// The answer of Check.
 pub enum CheckAnswer {
     Done,
     Refused { number: u8, place: usize },

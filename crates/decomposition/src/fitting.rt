@@ -13,11 +13,13 @@ use crate::layouts::known;
 use crate::layouts::layout_of;
 use refusal::first_large;
 
+// The answer of Fit.
 pub enum FitAnswer {
     Done,
     Refused { number: u8, place: usize },
 }
 
+// The answer of House fit.
 pub enum HouseFitAnswer {
     Done,
     Refused { number: u8, place: usize },

@@ -10,6 +10,7 @@ use crate::layouts::known;
 use crate::layouts::layout_of;
 use refusal::first_large;
 
+// The answer of Read: the width.
 pub enum ReadAnswer {
     Done { width: u32 },
     Refused { number: u8, place: usize },

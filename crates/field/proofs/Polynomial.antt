@@ -20,7 +20,7 @@ use Rattle.field.proofs.Bilinear.{mul-⊕}
 use Rattle.field.proofs.Ring.{mul-small}
 use Rattle.field.proofs.Power.{pow-twice}
 use Rattle.field.proofs.Tests.{and-left, and-right, all, all-at}
-use Rattle.field.proofs.Inverses.{field-4, field-6, pow-wrap}
+use Rattle.field.proofs.Inverses.{field-4, field-6, field-of, pow-wrap}
 
 pub length-exponents-4 : length (exponents 4) ≡ 9
 unfolding exponents classes flatten
@@ -49,8 +49,7 @@ follows-square {n} field x e e′ h t =
     go false false p q s = absurd s
 
 pub follows-power : {n : ℕ} → Width n → (x e e′ : ℕ) → x < 2 ^ n → follows n e e′ ≡ true → pow n x e′ ≡ square n (pow n x e)
-follows-power {n} (inl w) x e e′ h t = follows-square (rw w field-4) x e e′ h (rw t tt)
-follows-power {n} (inr w) x e e′ h t = follows-square (rw w field-6) x e e′ h (rw t tt)
+follows-power {n} w x e e′ h t = follows-square (field-of n w) x e e′ h (rw t tt)
 
 -- the test of a width's classes, of which there are at most four
 abbrev pub classesFollow : ℕ → Bool

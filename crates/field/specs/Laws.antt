@@ -5,6 +5,7 @@ use Rattle.xor.specs.Xor.{_⊕_}
 use Rattle.field.specs.Mul.{reduction, modulus, mul, plainMul}
 use Rattle.field.specs.Power.{pow, square, inverse}
 
+-- the laws at width n
 pub record Laws (n : ℕ) : Type 0 where
   -- sums and products of elements are elements
   pub add-closed : (a b : ℕ) → a < 2 ^ n → b < 2 ^ n → a ⊕ b < 2 ^ n

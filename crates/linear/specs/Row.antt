@@ -16,9 +16,10 @@ unfoldable pub dot : Scalars → ℕ → (ℕ → ℕ) → (ℕ → ℕ) → ℕ
 dot S zero r d = 0
 dot S (suc k) r d = S .add (dot S k r d) (S .mul (r k) (d k))
 
--- the sum of two rows, and a multiple of a row
+-- the sum of two rows
 abbrev pub plus : Scalars → (ℕ → ℕ) → (ℕ → ℕ) → ℕ → ℕ
 plus S r s j = S .add (r j) (s j)
 
+-- a multiple of a row
 abbrev pub times : Scalars → ℕ → (ℕ → ℕ) → ℕ → ℕ
 times S f r j = S .mul f (r j)

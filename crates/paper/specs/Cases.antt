@@ -23,6 +23,7 @@ pub record Case : Type 0 where
   pub given : List ℕ
   pub said : List ℕ
 
+-- one such row
 abbrev pub row : List ℕ → List ℕ → Case
 row g s = record { given = g; said = s }
 

@@ -121,12 +121,15 @@ nibblesShape i k n = forShape k n (λ j. stepOf (one i) ∷ [])
 unfoldable pub sharesShape : ℕ → ℕ → Shape
 sharesShape n s = forShape 0 s (λ i. nibblesShape i 0 n)
 
+-- the key update: the rotation, the S-boxes, the two nibbles of the round number
 unfoldable pub updateShape : Size → ℕ → Shape → Shape
 updateShape z s σ =
     sharesShape (z .nibbles) s ++ (forShape 0 (z .boxes) (λ j. σ) ++ nibblesShape 0 (numberNibble z) (numberNibble z + 2))
 
+-- a round: the key addition, 16 S-boxes, the permutation, the key update
 unfoldable pub roundShape : Size → ℕ → Shape → Shape
 roundShape z s σ = sharesShape 16 s ++ (forShape 0 16 (λ k. σ) ++ (sharesShape 16 s ++ updateShape z s σ))
 
+-- rounds 1 to 31, and a last key addition
 unfoldable pub blockShape : Size → ℕ → Shape → Shape
 blockShape z s σ = forShape 1 32 (λ r. roundShape z s σ) ++ sharesShape 16 s

@@ -38,9 +38,11 @@ onNibble f k x = replace k x (f (nibble k x))
 
 -- ---- the S-box and its layer
 
+-- the table of the S-box, inputs 0 to 15
 unfoldable pub table : List ℕ
 table = 12 ∷ 5 ∷ 6 ∷ 11 ∷ 9 ∷ 0 ∷ 10 ∷ 13 ∷ 3 ∷ 14 ∷ 15 ∷ 8 ∷ 4 ∷ 7 ∷ 1 ∷ 2 ∷ []
 
+-- the S-box
 unfoldable pub substitute : ℕ → ℕ
 substitute v = getD table v 0
 
@@ -58,6 +60,7 @@ place i = cond (eqb i 63) 63 (16 * i % 63)
 unfoldable pub send : ℕ → ℕ → ℕ → ℕ
 send x i y = y ⊕ bit i x * 2 ^ place i
 
+-- all 64 bits at their new places
 unfoldable pub permute : ℕ → ℕ
 permute x = iterate 0 64 (send x) 0
 

@@ -2,11 +2,13 @@
 use mathlib.Core.List.{List, [], _∷_}
 use Prim.Native.Nat.{ℕ}
 
+-- a key, a block, and the ciphertext of the block under the key
 pub record Vector : Type 0 where
   pub key : ℕ
   pub block : ℕ
   pub cipher : ℕ
 
+-- the four of the appendix
 unfoldable pub vectors : List Vector
 vectors =
     record { key = 0x00000000000000000000; block = 0x0000000000000000; cipher = 0x5579C1387B228445 }

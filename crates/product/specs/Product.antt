@@ -39,12 +39,15 @@ product n s a b = mark do
 
 -- ---- its shape
 
+-- of a pair: a draw and seven steps; the first five touch both shares
 unfoldable pub pairShape : ℕ → ℕ → ℕ → Shape
 pairShape n i j =
     drawOf n ∷ stepOf (two i j) ∷ stepOf (two i j) ∷ stepOf (two i j) ∷ stepOf (two i j) ∷ stepOf (two i j) ∷ stepOf (one i) ∷ stepOf (one j) ∷ []
 
+-- of the pairs of share i
 unfoldable pub rowShape : ℕ → ℕ → ℕ → Shape
 rowShape n s i = forShape (i + 1) s (pairShape n i)
 
+-- of the whole: a mark, the starts, the pairs
 unfoldable pub productShape : ℕ → ℕ → Shape
 productShape n s = marked ∷ forShape 0 s (λ i. stepOf (one i) ∷ []) ++ forShape 0 s (rowShape n s)

@@ -6,6 +6,7 @@ use mathlib.Core.List.{List}
 use mathlib.Core.Path.{_≡_}
 use Prim.Native.Nat.{ℕ}
 
+-- an outcome
 pub data Outcome : Type 0 where
   -- success, with the numbers that the operation hands back, in the paper's order
   done : List ℕ → Outcome

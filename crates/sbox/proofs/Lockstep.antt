@@ -22,7 +22,7 @@ use Rattle.product.specs.Product.{start, pair, row, product}
 use Rattle.sbox.specs.Sbox.{byShare, nth, constant, square, squares, thirdClass, powers, term, polynomial, polynomials, products, total, sbox}
 use Rattle.sbox.specs.Table.{cell, setCell, put}
 use Rattle.sbox.specs.Table as table
-use Rattle.sbox.specs.TableSteps.{squareShare, squareRow, multiplyRows, exponentOf, firstFactor, secondFactor, powerClass, thirdRows, powerRows}
+use Rattle.sbox.specs.TableSteps.{squareShare, squareRow, multiplyRows, exponentOf, factor, powerClass, thirdRows, powerRows}
 use Rattle.sbox.specs.TableSteps.{termAt, polynomialShare, polynomialRow}
 use Rattle.sbox.specs.TableSteps.{productRow, addRow, totalShare, fillRows, sboxRows}
 use Rattle.sbox.proofs.Holds.{Holds, holds-none, holds-row, holds-open, holds-last, holds-set, holds-put}
@@ -116,7 +116,7 @@ module _ (n s : ℕ) (nine : s ≤ 9) where
 
   -- the class of a product
   lockstep-class : {t : List ℕ} (k : ℕ) (l : List (List ℕ)) (x y z last : ℕ) → length l ≡ z → z + k ≡ last → last < 28
-      → firstFactor (exponentOf n z) ≡ x → secondFactor (exponentOf n z) ≡ y → Holds s t l
+      → factor (exponentOf n z) 0 6 ≡ x → factor (exponentOf n z) 1 3 ≡ y → Holds s t l
       → Lockstep (λ t′ m. Holds s t′ (l ++ m) × (length m ≡ suc k)) (powerClass n s z last t) (product n s (nth l x) (nth l y) >>= squares n s k)
   unfolding powerClass for
   lockstep-class k l x y z last e e′ hl ex ey h =
@@ -127,7 +127,7 @@ module _ (n s : ℕ) (nine : s ≤ 9) where
   lockstep-third : {t : List ℕ} (b : Bool) → eqb n 6 ≡ b → (xs ys : List (List ℕ)) → length xs ≡ n → length ys ≡ n → Holds s t (xs ++ ys)
       → Lockstep (λ t′ ws. Holds s t′ ws × (length ws ≡ cond b (3 * n) (2 * n))) (thirdRows b n s t)
       (thirdClass b n s xs ys >>= (λ zs. done (xs ++ (ys ++ zs))))
-  unfolding thirdRows thirdClass exponents classes flatten firstFactor secondFactor _>>=_
+  unfolding thirdRows thirdClass exponents classes flatten factor _>>=_
   lockstep-third true e xs ys lx ly h =
       let six : n ≡ 6 = eqb-true n 6 e in
       let l : length (xs ++ ys) ≡ 12 = length-append xs ys ∙ omega arith in
@@ -140,7 +140,7 @@ module _ (n s : ℕ) (nine : s ≤ 9) where
 
   lockstep-powers : {t : List ℕ} (x : List ℕ) → 1 < n → 2 * n ≤ 28 → exponentOf n n ≡ 3 → Holds s t (x ∷ [])
       → Lockstep (λ t′ ws. Holds s t′ ws × (length ws ≡ cond (eqb n 6) (3 * n) (2 * n))) (powerRows n s t) (powers n s x)
-  unfolding powerRows powers firstFactor secondFactor for
+  unfolding powerRows powers factor for
   lockstep-powers {t} x wide few begins h =
       let first : Lockstep (λ t′ m. Holds s t′ m × (length m ≡ suc (n - 1))) (for 0 (n - 1) (squareRow n s) t) (squares n s (n - 1) x) =
       rw sub-zero (lockstep-squares (n - 1) [] x (omega arith) h) in

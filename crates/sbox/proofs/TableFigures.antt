@@ -15,7 +15,7 @@ use Rattle.steps.specs.Loop.{each}
 use Rattle.product.specs.Counts.{eachPair}
 use Rattle.product.proofs.Counts.{pairs-is, pairs-twice}
 use Rattle.sbox.specs.Figures.{sboxProducts, sboxDraws, sboxSteps}
-use Rattle.sbox.specs.TableSteps.{firstFactor, secondFactor}
+use Rattle.sbox.specs.TableSteps.{factor}
 use Rattle.sbox.specs.TableCounts.{atSix, powerProducts, powerDraws, powerSteps, totalSteps, fillProducts, fillDraws, fillSteps}
 
 pub width-range : (n : ℕ) → Width n → (3 < n) × (n < 7)
@@ -32,13 +32,13 @@ not-at-six {n} e x = rw (ne-eqb n 6 e)
 
 -- ---- the rows of a class
 
-pub factors-small : (e : ℕ) → (firstFactor e < 28) × (secondFactor e < 28)
-unfolding firstFactor secondFactor
-factors-small e = go (eqb e 3)
+pub factor-small : (e a b bound : ℕ) → a < bound → b < bound → factor e a b < bound
+unfolding factor
+factor-small e a b bound p q = go (eqb e 3)
   where
-    go : (b : Bool) → (cond b 0 6 < 28) × (cond b 1 3 < 28)
-    go true = (omega arith, omega arith)
-    go false = (omega arith, omega arith)
+    go : (t : Bool) → cond t a b < bound
+    go true = p
+    go false = q
 
 -- the second class is in the list, and at width 6 the third
 pub second-listed : (n : ℕ) → Width n → n + 1 < length (exponents n)

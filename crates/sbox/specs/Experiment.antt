@@ -14,6 +14,7 @@ use Rattle.sbox.specs.Figures.{sboxDraws}
 unfoldable pub experiment : ℕ → ℕ → List (List ℕ) → List (List ℕ) → ℕ → Run (List ℕ)
 experiment n s qs ps x = split n s x >>= sbox n s qs ps
 
+-- its shape: a draw for each mask, and then the S-box
 unfoldable pub experimentShape : ℕ → ℕ → Shape
 experimentShape n s = replicate (s - 1) (drawOf n) ++ sboxShape n s (basisSize n)
 

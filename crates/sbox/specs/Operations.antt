@@ -91,6 +91,7 @@ watchReport (Watch·Refused number place) = refused number place
 
 -- ---- where the tests are passed
 
+-- what the tests come to, as an outcome that hands on the width
 abbrev pub testedReport : Tested → Outcome
 testedReport (Passed width) = done (width ∷ [])
 testedReport (Refused number place) = refused number place

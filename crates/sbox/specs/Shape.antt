@@ -14,22 +14,28 @@ unfoldable pub times : ℕ → Shape → Shape
 times zero σ = []
 times (suc k) σ = σ ++ times k σ
 
+-- a square: a step for each share
 unfoldable pub squareShape : ℕ → Shape
 squareShape s = forShape 0 s (λ i. stepOf (one i) ∷ [])
 
+-- at width 6, the third class: a product and its squares
 unfoldable pub thirdShape : Bool → ℕ → ℕ → Shape
 thirdShape true n s = productShape n s ++ times (n - 1) (squareShape s)
 thirdShape false n s = []
 
+-- the powers: the squares of x; a product and its squares; the third class
 unfoldable pub powersShape : ℕ → ℕ → Shape
 powersShape n s = times (n - 1) (squareShape s) ++ (productShape n s ++ (times (n - 1) (squareShape s) ++ thirdShape (eqb n 6) n s))
 
+-- a term for share i: the product, and the sum
 unfoldable pub termShape : ℕ → Shape
 termShape i = stepOf (one i) ∷ stepOf (one i) ∷ []
 
+-- a polynomial, share by share: a term for each exponent but the first
 unfoldable pub polynomialShape : ℕ → ℕ → Shape
 polynomialShape n s = forShape 0 s (λ i. forShape 0 (length (exponents n) - 1) (λ r. termShape i))
 
+-- the sum of k + 1 sharings, share by share
 unfoldable pub totalShape : ℕ → ℕ → Shape
 totalShape s k = forShape 0 s (λ i. forShape 0 k (λ j. stepOf (one i) ∷ []))
 

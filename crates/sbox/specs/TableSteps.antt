@@ -35,17 +35,14 @@ multiplyRows n s x y z t = do
 abbrev pub exponentOf : ℕ → ℕ → ℕ
 exponentOf n r = getD (exponents n) (r + 1) 0
 
--- the rows of the two factors of x ^ e that begins a class: x ^ 3 = x · x ^ 2, x ^ 11 = x ^ 3 · x ^ 8
-unfoldable pub firstFactor : ℕ → ℕ
-firstFactor e = cond (eqb e 3) 0 6
+-- the row of a factor of x ^ e, with which a class begins: a where e is 3, b where it is 11
+unfoldable pub factor : ℕ → ℕ → ℕ → ℕ
+factor e a b = cond (eqb e 3) a b
 
-unfoldable pub secondFactor : ℕ → ℕ
-secondFactor e = cond (eqb e 3) 1 3
-
--- the class that begins at row z: the product of its factors goes to row z, and each row from z on is squared into the next, up to row l
+-- the class that begins at row z: the product of its factors, x ^ 3 = x · x ^ 2 or x ^ 11 = x ^ 3 · x ^ 8, goes to row z, and each row from z on is squared into the next, up to row l
 unfoldable pub powerClass : ℕ → ℕ → ℕ → ℕ → List ℕ → Run (List ℕ)
 powerClass n s z l t = do
-  t′ ← multiplyRows n s (firstFactor (exponentOf n z)) (secondFactor (exponentOf n z)) z t
+  t′ ← multiplyRows n s (factor (exponentOf n z) 0 6) (factor (exponentOf n z) 1 3) z t
   for z l (squareRow n s) t′
 
 -- at width 6, the class of x ^ 11

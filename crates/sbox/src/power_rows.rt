@@ -98,21 +98,15 @@ fn square_rows(
     n
 }
 
-// The row of the first factor of x ^ e, with which a class begins: x ^ 3 = x · x ^ 2, x ^ 11 = x ^ 3 · x ^ 8.
-fn first_factor(e: u8) -> usize
-    ensures { λ r. ⌜ r ≡ spec.firstFactor e ⌝ }
+// The row of a factor of x ^ e, with which a class begins: a where e is 3, b where it is 11.
+fn factor(e: u8, a: usize, b: usize) -> usize
+    ensures { λ r. ⌜ r ≡ spec.factor e a b ⌝ }
 {
-    if e == 3 { 0 } else { 6 }
+    if e == 3 { a } else { b }
 }
 
-// The row of the second factor.
-fn second_factor(e: u8) -> usize
-    ensures { λ r. ⌜ r ≡ spec.secondFactor e ⌝ }
-{
-    if e == 3 { 1 } else { 3 }
-}
-
-// The class that begins at row z: the product of its factors goes to row z, and each row from z on is squared into the next, up to row `last`.
+// The class that begins at row z: the product of its factors, x ^ 3 = x · x ^ 2 or x ^ 11 = x ^ 3 · x ^ 8, goes to row z, and each row from z on is
+// squared into the next, up to row `last`.
 fn power_class(
     width: u32,
     s: usize,
@@ -132,8 +126,8 @@ fn power_class(
         n (now (values .entry)) (now (t .exit)) w (now (values .exit)) ⌝ }
 {
     let e = field::exponent(width, z + 1);
-    let x = first_factor(e);
-    let y = second_factor(e);
+    let x = factor(e, 0, 6);
+    let y = factor(e, 1, 3);
     let n = multiply_rows(width, s, x, y, z, random, watch, &mut *values, &mut *t, n);
     square_rows(width, s, z, last, random, watch, values, t, n)
 }

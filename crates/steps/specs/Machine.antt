@@ -7,13 +7,15 @@ use Rattle.steps.specs.declared.counts.Counts.{Counts}
 use Rattle.steps.specs.Program.{Run, done, step, draw, mark, result, trace, draws, products}
 use Rattle.steps.specs.Recorder.{seen}
 
--- the counts after one more product, one more draw, one more step
+-- the counts after one more product
 abbrev pub oneProduct : Counts → Counts
 oneProduct n = record { products = n .products + 1; random = n .random; steps = n .steps }
 
+-- after one more draw
 abbrev pub oneDraw : Counts → Counts
 oneDraw n = record { products = n .products; random = n .random + 1; steps = n .steps }
 
+-- after one more step
 abbrev pub oneStep : Counts → Counts
 oneStep n = record { products = n .products; random = n .random; steps = n .steps + 1 }
 

@@ -49,11 +49,12 @@ for i s f a = loop f i (s - i) a
 
 -- ---- a program on a tape of random elements
 
--- the first element of a tape, 0 where it is at its end, and the tape after it
+-- the first element of a tape, 0 where it is at its end
 unfoldable pub first : List ℕ → ℕ
 first [] = 0
 first (r ∷ tape) = r
 
+-- the tape after it
 unfoldable pub later : List ℕ → List ℕ
 later [] = []
 later (r ∷ tape) = tape

@@ -11,6 +11,7 @@ pub data Event : Type 0 where
   drawOf : ℕ → Event
   marked : Event
 
+-- a shape: all that is done, in order
 abbrev pub Shape : Type 0
 Shape = List Event
 
@@ -28,13 +29,15 @@ bitsOf (stepOf t ∷ σ) = bitsOf σ
 bitsOf (drawOf b ∷ σ) = b ∷ bitsOf σ
 bitsOf (marked ∷ σ) = bitsOf σ
 
--- how many steps, draws and masked products there are
+-- how many steps there are
 abbrev pub stepsOf : Shape → ℕ
 stepsOf σ = length (touchesOf σ)
 
+-- how many draws
 abbrev pub drawsOf : Shape → ℕ
 drawsOf σ = length (bitsOf σ)
 
+-- how many masked products
 unfoldable pub productsOf : Shape → ℕ
 productsOf [] = 0
 productsOf (stepOf t ∷ σ) = productsOf σ

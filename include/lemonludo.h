@@ -14,8 +14,8 @@
 // A word not in use is 0.
 //
 // Refusals. Each function lists its tests in the order in which they run; the first that fails is the answer, and nothing else is
-// refused. A refusal leaves everything lent for writing as it was, but for the work area of ll_fit and ll_house_fit after a 4. The place
-// of a 3 outside a record is that of the first such entry, counted through the slices named.
+// refused. A refusal leaves everything lent for writing but `answer` as it was, except that the work area of ll_fit and ll_house_fit is
+// all zero after a 4. The place of a 3 outside a record is that of the first such entry, counted through the slices named.
 //
 // Shares. s is 1 to 9. A sharing lies share 0 first; the value is the sum (exclusive or) of its shares. Masks and random bytes come from
 // the caller, fresh for each call and uniform: the library makes none.

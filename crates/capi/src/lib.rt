@@ -5,10 +5,10 @@ ghost use lib.ListN.{length};
 ghost use Rattle.steps.specs.Operations.{splitOutcome, splitShares, joinOutcome, joinShares};
 ghost use Rattle.decomposition.specs.Record.{readOutcome};
 ghost use Rattle.decomposition.specs.Check.{checkOutcome};
-ghost use Rattle.decomposition.specs.Fit.{Fits, HouseFits};
+ghost use Rattle.decomposition.specs.Fit.{houseCall};
 ghost use Rattle.sbox.specs.Operations.{sboxOutcome, sboxOutput, watchOutcome, watchOutput};
 ghost use Rattle.cipher.specs.Operations.{blockOutcome, blockOutput, watchOutcome as block·watchOutcome, watchOutput as block·watchOutput};
-ghost use Rattle.capi.specs.Words.{words, Reported, ReportedBy};
+ghost use Rattle.capi.specs.Words.{words, Reported, ReportedFit};
 use cipher::enciphering::BlockAnswer;
 use cipher::watching::WatchAnswer as BlockWatchAnswer;
 use decomposition::CheckAnswer;
@@ -51,7 +51,7 @@ pub extern "C" fn ll_check(record: &[u8], table: &[u8], answer: &mut [u64; 4])
     }
 }
 
-// Fit hands nothing back; the work and the record are as `Fits` says.
+// Fit hands nothing back.
 #[no_mangle]
 pub extern "C" fn ll_fit(
     width: u32,
@@ -61,8 +61,9 @@ pub extern "C" fn ll_fit(
     record: &mut [u8],
     answer: &mut [u64; 4],
 )
-    ensures { λ u. ⌜ ReportedBy (Fits width (now (table .entry)) (now (basis .entry)) (now (work .entry)) (now («record» .entry))
-        (now (work .exit)) (now («record» .exit))) (now (answer .exit)) ⌝ }
+    ensures { λ u. ⌜ ReportedFit width
+        (record { table = now (table .entry); basis = now (basis .entry); work = now (work .entry); out = now («record» .entry) })
+        (now (answer .exit)) (now (work .exit)) (now («record» .exit)) ⌝ }
 {
     let a = decomposition::fit(width, table, basis, work, record);
     match a {
@@ -71,7 +72,7 @@ pub extern "C" fn ll_fit(
     }
 }
 
-// House fit hands nothing back; the work and the record are as `HouseFits` says.
+// House fit hands nothing back: a fit of width 4 over the house basis.
 #[no_mangle]
 pub extern "C" fn ll_house_fit(
     table: &[u8],
@@ -79,8 +80,8 @@ pub extern "C" fn ll_house_fit(
     record: &mut [u8],
     answer: &mut [u64; 4],
 )
-    ensures { λ u. ⌜ ReportedBy (HouseFits (now (table .entry)) (now (work .entry)) (now («record» .entry))
-        (now (work .exit)) (now («record» .exit))) (now (answer .exit)) ⌝ }
+    ensures { λ u. ⌜ ReportedFit 4 (houseCall (now (table .entry)) (now (work .entry)) (now («record» .entry)))
+        (now (answer .exit)) (now (work .exit)) (now («record» .exit)) ⌝ }
 {
     let a = decomposition::house_fit(table, work, record);
     match a {
@@ -104,7 +105,7 @@ pub extern "C" fn ll_sbox(
     ensures { λ u. ⌜ Reported
         (sboxOutcome (now («record» .entry)) s (now (shares .entry)) (now (random .entry)) (length (now (out .entry))))
         (sboxOutput (now («record» .entry)) s (now (shares .entry)) (now (random .entry)))
-        (now (out .entry)) (now (out .exit)) (now (answer .exit)) ⌝ }
+        (now (out .entry)) (now (answer .exit)) (now (out .exit)) ⌝ }
 {
     let a = sbox::substituting::sbox(record, s, shares, random, out);
     match a {
@@ -131,7 +132,7 @@ pub extern "C" fn ll_sbox_watch(
     ensures { λ u. ⌜ Reported
         (watchOutcome (now («record» .entry)) s (now (shares .entry)) (now (random .entry)) (now (list .entry)) (length (now (values .entry))))
         (watchOutput (now («record» .entry)) s (now (shares .entry)) (now (random .entry)) (now (list .entry)))
-        (now (values .entry)) (now (values .exit)) (now (answer .exit)) ⌝ }
+        (now (values .entry)) (now (answer .exit)) (now (values .exit)) ⌝ }
 {
     let a = sbox::watching::watch_sbox(record, s, shares, random, list, values);
     match a {
@@ -158,7 +159,7 @@ pub extern "C" fn ll_block(
     ensures { λ u. ⌜ Reported
         (blockOutcome (now («record» .entry)) s (now («key_shares» .entry)) (now («block_shares» .entry)) (now (random .entry)) (length (now (out .entry))))
         (blockOutput (now («record» .entry)) s (now («key_shares» .entry)) (now («block_shares» .entry)) (now (random .entry)))
-        (now (out .entry)) (now (out .exit)) (now (answer .exit)) ⌝ }
+        (now (out .entry)) (now (answer .exit)) (now (out .exit)) ⌝ }
 {
     let a = cipher::enciphering::block(record, s, key_shares, block_shares, random, out);
     match a {
@@ -186,7 +187,7 @@ pub extern "C" fn ll_block_watch(
     ensures { λ u. ⌜ Reported
         (block·watchOutcome (now («record» .entry)) s (now («key_shares» .entry)) (now («block_shares» .entry)) (now (random .entry)) (now (list .entry)) (length (now (values .entry))))
         (block·watchOutput (now («record» .entry)) s (now («key_shares» .entry)) (now («block_shares» .entry)) (now (random .entry)) (now (list .entry)))
-        (now (values .entry)) (now (values .exit)) (now (answer .exit)) ⌝ }
+        (now (values .entry)) (now (answer .exit)) (now (values .exit)) ⌝ }
 {
     let a = cipher::watching::watch_block(
         record,
@@ -219,7 +220,7 @@ pub extern "C" fn ll_split(
     answer: &mut [u64; 4],
 )
     ensures { λ u. ⌜ Reported (splitOutcome (length (now (value .entry))) s (length (now (masks .entry))) (length (now (out .entry))))
-        (splitShares s (now (value .entry)) (now (masks .entry))) (now (out .entry)) (now (out .exit)) (now (answer .exit)) ⌝ }
+        (splitShares s (now (value .entry)) (now (masks .entry))) (now (out .entry)) (now (answer .exit)) (now (out .exit)) ⌝ }
 {
     let a = steps::splitting::split(value, s, masks, out);
     match a {
@@ -232,7 +233,7 @@ pub extern "C" fn ll_split(
 #[no_mangle]
 pub extern "C" fn ll_join(shares: &[u8], s: u32, out: &mut [u8], answer: &mut [u64; 4])
     ensures { λ u. ⌜ Reported (joinOutcome (length (now (shares .entry))) s (length (now (out .entry))))
-        (joinShares (length (now (out .entry))) s (now (shares .entry))) (now (out .entry)) (now (out .exit)) (now (answer .exit)) ⌝ }
+        (joinShares (length (now (out .entry))) s (now (shares .entry))) (now (out .entry)) (now (answer .exit)) (now (out .exit)) ⌝ }
 {
     let a = steps::joining::join(shares, s, out);
     match a {

@@ -1,56 +1,54 @@
 -- ANSWERS ALIKE. Two calls of Block, or of Watch block, with the same record, share count, list and slice lengths, and with random elements that are
 -- too large, if any, at the same places, give the same answer, whatever the shares and the random elements; and what they hand back are the paper's
--- figures.
-use mathlib.Core.Path.{_≡_, sym, ap, _∙_}
+-- figures. What is too large is asked only of a record that passes its tests; calls with any other answer alike in any case.
+use mathlib.Core.Path.{_≡_, refl, sym, ap, _∙_}
 use mathlib.Core.Bool.{Bool}
-use mathlib.Core.List.{List, [], _∷_}
+use mathlib.Core.List.{List}
 use Prim.Native.Nat.{ℕ, _*_}
-use lib.Dec.{eqb}
+use lib.Dec.{leb, eqb}
 use lib.ListN.{length, length-replicate}
 use Rattle.xor.specs.Sum.{join, Small}
-use Rattle.refusal.specs.Outcome.{Outcome, done, andThen}
+use Rattle.refusal.specs.Outcome.{Outcome, done, refused, andThen}
 use Rattle.refusal.specs.Large.{firstLarge, LargeAlike}
-use Rattle.refusal.proofs.Outcome.{then-passed, done-values, then-alike}
+use Rattle.refusal.proofs.Outcome.{passed, then-passed, done-values, then-alike}
 use Rattle.refusal.proofs.Large.{large-same}
-use Rattle.steps.specs.Tape.{elements, bytesFor}
+use Rattle.steps.specs.Tape.{elements}
 use Rattle.steps.proofs.Tape.{elements-length}
 use Rattle.refusal.specs.Watch.{listFits, testSteps}
 use Rattle.layers.specs.State.{sharesOf}
-use Rattle.cipher.specs.Figures.{blockProducts, blockDraws, blockSteps}
+use Rattle.cipher.specs.Figures.{blockDraws, blockSteps, figures}
+use Rattle.cipher.specs.Alike.{SamePlaces}
 use Rattle.cipher.specs.Operations.{callProgram, callCounts, recordTests, argumentTests, callTests, blockOutcome, watchOutcome}
-use Rattle.cipher.proofs.Calls.{tests-passed, present-record}
+use Rattle.cipher.proofs.Calls.{tests-passed, present-record, record-passed}
 use Rattle.cipher.proofs.Output.{shares-sharing}
 use Rattle.cipher.proofs.Theorems.{trace-length, draws-are, products-length}
 
--- the figures of a call of s shares
-unfoldable pub figures : ℕ → List ℕ
-figures s = blockProducts ∷ bytesFor 4 (blockDraws s) ∷ blockSteps s ∷ []
-
--- two calls whose slices have the same lengths, and their random elements that are too large, if any, at the same places; shares are bytes
-pub record SamePlaces (key key′ block block′ random random′ : List ℕ) : Type 0 where
-  pub same-key : length key ≡ length key′
-  pub same-block : length block ≡ length block′
-  pub same-random : length random ≡ length random′
-  pub large-random : LargeAlike 16 (elements 4 random) (elements 4 random′)
-  pub key-bytes : Small 8 key
-  pub key-bytes′ : Small 8 key′
-  pub block-bytes : Small 8 block
-  pub block-bytes′ : Small 8 block′
-
 -- ---- the tests go by the record, lengths and the places of random elements that are too large
 
-tests-alike : (r : List ℕ) (s : ℕ) {key key′ block block′ random random′ : List ℕ} → SamePlaces key key′ block block′ random random′
-    → (fits : Bool) → callTests r s key block random fits ≡ callTests r s key′ block′ random′ fits
-unfolding callTests argumentTests
-tests-alike r s {random = random} {random′ = random′} h fits =
-    let whole : length (elements 4 random) ≡ length (elements 4 random′) = elements-length 4 random random′ (h .same-random) in
+arguments-alike : (s : ℕ) (key key′ block block′ random random′ : List ℕ) → length key ≡ length key′ → length block ≡ length block′
+    → length random ≡ length random′ → LargeAlike 16 (elements 4 random) (elements 4 random′)
+    → (fits : Bool) → argumentTests s key block random fits ≡ argumentTests s key′ block′ random′ fits
+unfolding argumentTests
+arguments-alike s key key′ block block′ random random′ same-key same-block same-random large-random fits =
+    let whole : length (elements 4 random) ≡ length (elements 4 random′) = elements-length 4 random random′ same-random in
     let first : firstLarge 16 (elements 4 random) ≡ firstLarge 16 (elements 4 random′) =
-    large-same 16 (elements 4 random) (elements 4 random′) whole (h .large-random) in
-    rw (h .same-key, h .same-block, h .same-random, whole, first)
+    large-same 16 (elements 4 random) (elements 4 random′) whole large-random in
+    rw (same-key, same-block, same-random, whole, first)
+
+tests-alike : (r : List ℕ) (s : ℕ) {key key′ block block′ random random′ : List ℕ} → SamePlaces r key key′ block block′ random random′
+    → (fits : Bool) → callTests r s key block random fits ≡ callTests r s key′ block′ random′ fits
+unfolding callTests
+tests-alike r s {key} {key′} {block} {block′} {random} {random′} h fits = go (recordTests r) refl
+  where
+    go : (o : Outcome) → recordTests r ≡ o → andThen o (argumentTests s key block random fits) ≡ andThen o (argumentTests s key′ block′ random′ fits)
+    go (refused number place) e = refl
+    go (done v) e =
+        let large = h .large-random (record-passed r e) in
+        arguments-alike s key key′ block block′ random random′ (h .same-key) (h .same-block) (h .same-random) large fits
 
 -- ---- where the tests are passed the figures are the paper's
 
-counts-figures : (r : List ℕ) (s : ℕ) (key block random : List ℕ) (fits : Bool) → Small 8 key → Small 8 block
+pub counts-figures : (r : List ℕ) (s : ℕ) (key block random : List ℕ) (fits : Bool) → Small 8 key → Small 8 block
     → {v : List ℕ} → callTests r s key block random fits ≡ done v → callCounts r s key block random ≡ figures s
 unfolding callTests callCounts callProgram figures
 counts-figures r s key block random fits hk hb e =
@@ -69,7 +67,7 @@ counts-figures r s key block random fits hk hb e =
 
 -- ---- the answers
 
-answers-alike : (r : List ℕ) (s : ℕ) {key key′ block block′ random random′ : List ℕ} → SamePlaces key key′ block block′ random random′
+answers-alike : (r : List ℕ) (s : ℕ) {key key′ block block′ random random′ : List ℕ} → SamePlaces r key key′ block block′ random random′
     → (fits : Bool) (next : List ℕ → Outcome)
     → andThen (callTests r s key block random fits) (next (callCounts r s key block random))
     ≡ andThen (callTests r s key′ block′ random′ fits) (next (callCounts r s key′ block′ random′))
@@ -79,13 +77,13 @@ answers-alike r s {key} {key′} {block} {block′} {random} {random′} h fits 
     (λ v p. counts-figures r s key block random fits (h .key-bytes) (h .block-bytes) p
     ∙ sym (counts-figures r s key′ block′ random′ fits (h .key-bytes′) (h .block-bytes′) (sym same ∙ p)))
 
-pub block-answers : (r : List ℕ) (s : ℕ) {key key′ block block′ random random′ : List ℕ} (out : ℕ) → SamePlaces key key′ block block′ random random′
+pub block-answers : (r : List ℕ) (s : ℕ) {key key′ block block′ random random′ : List ℕ} (out : ℕ) → SamePlaces r key key′ block block′ random random′
     → blockOutcome r s key block random out ≡ blockOutcome r s key′ block′ random′ out
 unfolding blockOutcome
 block-answers r s out h = answers-alike r s h (eqb out (8 * s)) done
 
 pub watch-answers : (r : List ℕ) (s : ℕ) {key key′ block block′ random random′ : List ℕ} (list : List ℕ) (values : ℕ)
-    → SamePlaces key key′ block block′ random random′
+    → SamePlaces r key key′ block block′ random random′
     → watchOutcome r s key block random list values ≡ watchOutcome r s key′ block′ random′ list values
 unfolding watchOutcome
 watch-answers r s list values h =
@@ -98,3 +96,14 @@ unfolding blockOutcome
 block-figures r s key block random out hk hb e =
     let a = then-passed (callTests r s key block random (eqb out (8 * s))) _ e in
     done-values (sym (a .2)) ∙ counts-figures r s key block random (eqb out (8 * s)) hk hb (a .1)
+
+-- a watch that is done hands back the same
+pub watch-figures : (r : List ℕ) (s : ℕ) (key block random list : List ℕ) (values : ℕ) → Small 8 key → Small 8 block
+    → {v : List ℕ} → watchOutcome r s key block random list values ≡ done v → v ≡ figures s
+unfolding watchOutcome
+watch-figures r s key block random list values hk hb e =
+    let fits = listFits (length list) values in
+    let total = blockSteps s in
+    let a = then-passed (callTests r s key block random fits) _ e in
+    let b = passed (leb (length list) (firstLarge total list)) 8 (firstLarge total list) _ (a .2) in
+    done-values (sym (b .1)) ∙ counts-figures r s key block random fits hk hb (a .1)

@@ -8,8 +8,8 @@ use native.Mathlib.Omega.{arith}
 use borrow.Author.Tests.{eqb-true, leb-true}
 use lib.Dec.{leb, eqb}
 use lib.ListN.{length, drop}
-use lib.Seq.{getD-drop}
 use Rattle.xor.specs.Sum.{join, Small}
+use Rattle.xor.proofs.Sum.{small-drop}
 use Rattle.refusal.specs.Outcome.{done, refused, test}
 use Rattle.refusal.specs.Range.{oneTo}
 use Rattle.refusal.specs.Large.{firstLarge}
@@ -36,7 +36,8 @@ use Rattle.sbox.proofs.Calls.{few-pairs, all-below}
 use Rattle.present.specs.Present.{table}
 use Rattle.layers.specs.State.{shareAt, sharesOf, sharing, bytesOf}
 use Rattle.layers.proofs.View.{share-sharing}
-use Rattle.cipher.specs.Box.{recordSbox, Closed}
+use Rattle.cipher.specs.Box.{recordSbox}
+use Rattle.cipher.specs.Rounds.{Closed}
 use Rattle.cipher.specs.Experiment.{PresentRecord}
 use Rattle.cipher.specs.Figures.{blockProducts, blockDraws, blockSteps}
 use Rattle.cipher.specs.Operations.{callProgram, callCounts, computesTable, recordTests, argumentTests, callTests, blockOutput, watchOutput, Callable}
@@ -107,6 +108,24 @@ present-record r e =
     let read : readOutcome r ≡ done (4 ∷ []) = a .1 ∙ ap done (sym (read-values r (a .1) .1) ∙ ap (λ (n : ℕ). n ∷ []) four) in
     record { read = read; checked = check-tests r read ∙ ap (λ (b : Bool). test b 6 (firstDifference (recordForm (layout 4) r) table) (done [])) (c .0) }
 
+-- where the tests of a record are passed nothing is handed on
+pub record-passed : (r : List ℕ) {numbers : List ℕ} → recordTests r ≡ done numbers → recordTests r ≡ done []
+unfolding recordTests
+record-passed r e =
+    let a = then-passed (readOutcome r) _ e in
+    let b = passed (eqb (widthOf r) 4) 1 0 _ (a .2) in
+    let c = passed (computesTable r) 6 0 _ (b .1) in
+    e ∙ sym (c .1)
+
+-- a record that Read accepts with width 4 and Check with PRESENT's table passes the tests of Block
+pub present-passes : (r : List ℕ) → PresentRecord r → recordTests r ≡ done []
+unfolding recordTests
+present-passes r h =
+    let four : widthOf r ≡ 4 = read-accepted r 4 (h .read) .named in
+    let place = firstDifference (recordForm (layout 4) r) table in
+    let c = passed (computesTable r) 6 place (done []) (sym (check-tests r (h .read)) ∙ h .checked) in
+    rw (h .read, four, c .0) refl
+
 -- ---- its run
 
 module _ {r : List ℕ} {s : ℕ} {key block random : List ℕ} (a : Callable r s key block random) where
@@ -120,7 +139,7 @@ module _ {r : List ℕ} {s : ℕ} {key block random : List ℕ} (a : Callable r 
   call-closed =
       let tape = elements 4 random in
       let coefficients = accepted-record 4 r (a .accepted) in
-      let small : (d : ℕ) → Small 4 (drop d tape) = λ d i. rw (getD-drop d tape i 0) (a .random-small (d + i)) in
+      let small : (d : ℕ) → Small 4 (drop d tape) = λ d. small-drop 4 d tape (a .random-small) in
       record {
         places = λ x d h. result-places coefficients s (join x) x (drop d tape) (a .some) (a .nine) h (small d);
         nibbles = λ x d h. let k = result-sharing coefficients s (join x) x (drop d tape) (a .some) (a .nine) h (small d) in

@@ -4,6 +4,11 @@ pub mod Nibbles
 pub mod Calls
 pub mod Box
 pub mod Theorems
+pub mod Bytes
 pub mod Output
 pub mod Answers
 pub mod Watched
+pub mod Settles
+pub mod Chain
+pub mod Tapes
+pub mod House

@@ -20,7 +20,7 @@ use Rattle.present.proofs.Numbers.{nibble-lt, nibble-linear}
 use Rattle.present.proofs.Sharing.{share-map}
 use Rattle.layers.specs.State.{shareAt, sharesOf, sharing}
 use Rattle.layers.proofs.View.{share-past}
-use Rattle.cipher.specs.Box.{Closed}
+use Rattle.cipher.specs.Rounds.{Closed}
 use Rattle.steps.proofs.Parts.{went-map}
 
 -- a record of width 4 has 33 bytes

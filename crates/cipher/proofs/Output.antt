@@ -1,54 +1,54 @@
--- THE BYTES. The shares that Block writes join to the PRESENT-80 ciphertext of what the shares of the key and of the block join to.
-use mathlib.Core.Path.{_≡_, refl, sym, ap, _∙_}
+-- THE BYTES. If Block answers done, the shares that it writes join to the PRESENT-80 ciphertext of what the shares of the key and of the block join
+-- to: as numbers, and in the bytes that Join writes.
+use mathlib.Core.Path.{_≡_, refl, sym, ap, ap₂, _∙_}
 use mathlib.Core.List.{List, []}
-use Prim.Native.Nat.{ℕ, _*_, _≤_}
-use native.Mathlib.Decide.{decLt}
-use native.Mathlib.Omega.{arith}
-use lib.ListN.{List·getD-eq-default}
-use lib.Pow.{pow-pos}
+use Prim.Native.Nat.{ℕ, _*_}
+use lib.Dec.{eqb}
+use lib.ListN.{length}
 use Rattle.xor.specs.Sum.{join, Small}
 use Rattle.refusal.specs.Outcome.{done}
+use Rattle.refusal.proofs.Outcome.{then-passed}
 use Rattle.steps.specs.Program.{result}
 use Rattle.steps.specs.Sharing.{share, Sharing}
 use Rattle.steps.specs.Fill.{tabulate}
 use Rattle.steps.specs.Tape.{elements}
-use Rattle.steps.proofs.Fill.{length-tabulate, getD-tabulate}
-use Rattle.steps.proofs.Sharing.{join-for, for-sum-same}
+use Rattle.steps.specs.Operations.{joinShares}
+use Rattle.steps.proofs.Fill.{length-tabulate}
+use Rattle.steps.proofs.Sharing.{tabulated-past, small-tabulate, without-past}
 use Rattle.present.specs.Present.{size80, encrypt}
+use Rattle.present.specs.Bytes.{fromBytes, toBytes}
 use Rattle.layers.specs.State.{shareAt, sharesOf}
 use Rattle.layers.proofs.Number.{number-lt}
 use Rattle.layers.proofs.Stored.{shares-of-bytes}
-use Rattle.cipher.specs.Operations.{callProgram, recordTests, blockOutput, Callable}
-use Rattle.cipher.proofs.Calls.{present-record}
+use Rattle.cipher.specs.Operations.{callProgram, recordTests, argumentTests, callTests, blockOutcome, blockOutput, Callable}
+use Rattle.cipher.proofs.Calls.{present-record, record-passed, tests-passed}
 use Rattle.cipher.proofs.Theorems.{result-sharing}
-
--- ---- shares in a list of s places
-
-tabulated-past : (s : ℕ) (f : ℕ → ℕ) (i : ℕ) → s ≤ i → share (tabulate s f) i ≡ 0
-tabulated-past s f i h = List·getD-eq-default (tabulate s f) 0 {n = i} (omega (arith, length-tabulate s f))
+use Rattle.cipher.proofs.Bytes.{bytes-of-small, bytes-of-length, join-number, join-writes}
 
 -- the s shares that lie in bytes are a sharing of what they join to
 pub shares-sharing : (w s : ℕ) (l : List ℕ) → Small 8 l → Sharing (8 * w) s (join (sharesOf w s l)) (sharesOf w s l)
 unfolding sharesOf shareAt
 shares-sharing w s l h =
     record {
-      small = λ i. elim (decLt i s) [
-        | yes k ↦ rw (getD-tabulate s (shareAt w l) i 0 k) (number-lt (w * i) l h w)
-        | no k ↦ rw (tabulated-past s (shareAt w l) i (omega arith)) (pow-pos (8 * w))
-      ];
+      small = small-tabulate (8 * w) s (shareAt w l) (λ i. number-lt (w * i) l h w);
       past = tabulated-past s (shareAt w l);
       joins = refl;
     }
 
--- a sharing of s shares joins to the same without its other places
-without-past : (s : ℕ) (a : List ℕ) → ((i : ℕ) → s ≤ i → share a i ≡ 0) → join (tabulate s (share a)) ≡ join a
-without-past s a h =
-    join-for s (tabulate s (share a)) (tabulated-past s (share a))
-    ∙ for-sum-same 0 s (λ j. share (tabulate s (share a)) j) (λ j. share a j) (λ j z k. getD-tabulate s (share a) j 0 k)
-    ∙ sym (join-for s a h)
-
 -- ---- what Block writes
 
+-- the bytes of s shares
+pub output-bytes : (r : List ℕ) (s : ℕ) (key block random : List ℕ) → Small 8 (blockOutput r s key block random)
+unfolding blockOutput
+output-bytes r s key block random = bytes-of-small 8 _
+
+pub output-length : (r : List ℕ) (s : ℕ) (key block random : List ℕ) → length (blockOutput r s key block random) ≡ 8 * s
+unfolding blockOutput
+output-length r s key block random =
+    let shares = share (result (callProgram r s key block) (elements 4 random)) in
+    bytes-of-length 8 (tabulate s shares) ∙ ap (λ (k : ℕ). 8 * k) (length-tabulate s shares)
+
+-- where a call may run, they join to the ciphertext
 pub output-joins : (r : List ℕ) (s : ℕ) (key block random : List ℕ) → Small 8 key → Small 8 block
     → recordTests r ≡ done []
     → Callable r s key block random
@@ -64,3 +64,25 @@ output-joins r s key block random hk hb e a =
     ap join (shares-of-bytes 8 s (share c) (λ i. sharing .small i))
     ∙ without-past s c (sharing .past)
     ∙ sharing .joins
+
+-- FROM THE ANSWER. If Block answers done, what it writes joins to the ciphertext.
+pub done-joins : (r : List ℕ) (s : ℕ) (key block random : List ℕ) (out : ℕ) → Small 8 key → Small 8 block
+    → {v : List ℕ} → blockOutcome r s key block random out ≡ done v
+    → join (sharesOf 8 s (blockOutput r s key block random)) ≡ encrypt size80 (join (sharesOf 10 s key)) (join (sharesOf 8 s block))
+unfolding blockOutcome callTests
+done-joins r s key block random out hk hb e =
+    let fits = eqb out (8 * s) in
+    let tests = then-passed (callTests r s key block random fits) _ e .1 in
+    let record-tests = then-passed (recordTests r) (argumentTests s key block random fits) tests .1 in
+    output-joins r s key block random hk hb (record-passed r record-tests) (tests-passed r s key block random fits tests .0)
+
+-- IN BYTES. If Block answers done, what Join writes from what it writes are the eight bytes of the ciphertext of what Join writes from the shares of
+-- the key and of the block.
+pub join-ciphertext : (r : List ℕ) (s : ℕ) (key block random : List ℕ) (out : ℕ) → Small 8 key → Small 8 block
+    → {v : List ℕ} → blockOutcome r s key block random out ≡ done v
+    → joinShares 8 s (blockOutput r s key block random)
+    ≡ toBytes 8 (encrypt size80 (fromBytes (joinShares 10 s key)) (fromBytes (joinShares 8 s block)))
+join-ciphertext r s key block random out hk hb e =
+    join-writes 8 s (blockOutput r s key block random) (output-bytes r s key block random)
+    ∙ ap (toBytes 8)
+    (done-joins r s key block random out hk hb e ∙ ap₂ (encrypt size80) (sym (join-number 10 s key hk)) (sym (join-number 8 s block hb)))

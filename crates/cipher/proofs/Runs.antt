@@ -5,7 +5,7 @@ use Prim.Native.Nat.{ℕ, _+_}
 use native.Mathlib.Omega.{arith}
 use Rattle.xor.specs.Xor.{_⊕_}
 use Rattle.steps.specs.declared.counts.Counts.{Counts}
-use Rattle.steps.specs.Program.{Run, one, done, _>>=_, _>>_, note}
+use Rattle.steps.specs.Program.{Run, one, return, _>>=_, _>>_, note}
 use Rattle.steps.specs.Recorder.{seen}
 use Rattle.steps.specs.Machine.{exec, Went}
 use Rattle.steps.specs.Loop.{each}
@@ -19,7 +19,7 @@ use Rattle.present.specs.Masked.{shareWise, alone, noteNibbles, noteShares, rec
 
 -- the turn of the loop that records the nibbles of share i, which is x
 abbrev pub nibbleTurn : ℕ → ℕ → ℕ → Unit {0} → Run Unit
-nibbleTurn i x j u = note (one i) (nibble j x) >> done u
+nibbleTurn i x j u = note (one i) (nibble j x) >> return u
 
 -- nibble k of x is recorded
 pub nibble-went : (tape watch : List ℕ) (i k x : ℕ) (n : Counts) (vs : List ℕ) (v next : ℕ) (vs′ : List ℕ)

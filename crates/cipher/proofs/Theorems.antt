@@ -24,6 +24,7 @@ use Rattle.present.specs.Experiment.{Secret}
 use Rattle.present.proofs.Numbers.{sound80}
 use Rattle.present.proofs.Joined.{encrypt-joins}
 use Rattle.present.proofs.Counts.{block-steps, block-draws, block-products, block-bits}
+use Rattle.present.proofs.Secrecy as present
 use Rattle.present.proofs.Secrecy.{block-untouched-share, block-few-steps, choice-bits}
 use Rattle.present.proofs.Experiment.{experiment-trace}
 use Rattle.cipher.specs.Box.{recordSbox, blockProgram}
@@ -104,6 +105,11 @@ module _ (r : List ℕ) (accepted : PresentRecord r) (s : ℕ) (some : 0 < s) (n
       → trace (experiment r s a) (l ++ (m ++ random)) ≡ trace (blockProgram r s (a .key ⊕ join l ∷ l) (a .block ⊕ join m ∷ m)) random
   unfolding experiment
   experiment-steps = experiment-trace (recordSbox s r) size80 s
+
+  -- The experiment draws the elements of a choice, and no other.
+  pub experiment-draws : (a : State ℕ) → Secret size80 a → (tape : List ℕ) → Fits (choiceBits s) tape → draws (experiment r s a) tape ≡ choiceBits s
+  unfolding experiment choiceBits
+  experiment-draws = present.experiment-draws (recordSbox s r) size80 sound80 s (boxShape s) (substitutes r accepted s some nine) some
 
   -- FEW STEPS. If the list has at most t different numbers, and s is at least 2 t + 1, then for any two keys and blocks and each list of values equally
   -- many choices show these values at the steps of the list.

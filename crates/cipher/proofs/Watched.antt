@@ -1,7 +1,7 @@
 -- A WATCH WRITES WHAT THE EXPERIMENT SHOWS. For the shares that the secrets and the masks give, Watch block writes the watched values of the experiment
 -- whose tape is the masks of the key, those of the block, and the random elements.
 use mathlib.Core.Path.{_≡_, sym, ap, ap₂, subst, _∙_}
-use mathlib.Core.List.{List, _∷_, _++_}
+use mathlib.Core.List.{List, _++_}
 use Prim.Native.Nat.{ℕ, suc, _-_, _*_, _^_, _≤_, _<_}
 use native.Mathlib.Omega.{arith}
 use lib.ListN.{length, getD}
@@ -17,6 +17,7 @@ use Rattle.present.specs.Present.{size80, State}
 use Rattle.present.specs.Experiment.{Secret}
 use Rattle.layers.specs.State.{sharesOf, bytesOf}
 use Rattle.layers.proofs.Stored.{shares-of-bytes}
+use Rattle.sbox.specs.Experiment.{settled}
 use Rattle.cipher.specs.Box.{blockProgram}
 use Rattle.cipher.specs.Experiment.{PresentRecord, experiment}
 use Rattle.cipher.specs.Operations.{callProgram, watchOutput}
@@ -31,15 +32,15 @@ shares-again w s a e h =
     ∙ tabulate-getD a 0)
 
 -- a secret below 2 ^ (8 w) and its masks give s shares
-split-again : (w s x : ℕ) (masks : List ℕ) → 0 < s → length masks ≡ s - 1 → x < 2 ^ (8 * w) → Small (8 * w) masks
-    → sharesOf w s (bytesOf w (x ⊕ join masks ∷ masks)) ≡ x ⊕ join masks ∷ masks
+pub split-again : (w s x : ℕ) (masks : List ℕ) → 0 < s → length masks ≡ s - 1 → x < 2 ^ (8 * w) → Small (8 * w) masks
+    → sharesOf w s (bytesOf w (settled x masks)) ≡ settled x masks
 split-again w s x masks some e hx h =
-    shares-again w s (x ⊕ join masks ∷ masks) (ap suc e ∙ omega arith)
+    shares-again w s (settled x masks) (ap suc e ∙ omega arith)
     (small-cons (8 * w) (x ⊕ join masks) masks (⊕-lt (8 * w) hx (join-small (8 * w) masks h)) h)
 
 pub watch-shows : (r : List ℕ) → PresentRecord r → (s : ℕ) → 0 < s → s ≤ 9 → (a : State ℕ) → Secret size80 a
     → (l m random list : List ℕ) → length l ≡ s - 1 → length m ≡ s - 1 → Small 80 l → Small 64 m
-    → watchOutput r s (bytesOf 10 (a .key ⊕ join l ∷ l)) (bytesOf 8 (a .block ⊕ join m ∷ m)) random list
+    → watchOutput r s (bytesOf 10 (settled (a .key) l)) (bytesOf 8 (settled (a .block) m)) random list
     ≡ watched list (trace (experiment r s a) (l ++ (m ++ elements 4 random)))
 unfolding watchOutput callProgram
 watch-shows r accepted s some nine a secret l m random list el em hl hm =

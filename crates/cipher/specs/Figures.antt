@@ -1,5 +1,7 @@
 -- The figures of a masked block of s shares: how many masked products, random elements and steps there are.
+use mathlib.Core.List.{List, [], _∷_}
 use Prim.Native.Nat.{ℕ, _+_, _-_, _*_}
+use Rattle.steps.specs.Tape.{bytesFor}
 use Rattle.sbox.specs.Figures.{sboxProducts, sboxDraws, sboxSteps}
 
 -- ---- of a round: 17 S-boxes, and 52 nibbles of each share and two of share 0 that are recorded
@@ -29,3 +31,7 @@ blockDraws s = 527 * (s * (s - 1))
 -- its steps: 31 rounds and the last key addition, 16 nibbles a share
 unfoldable pub blockSteps : ℕ → ℕ
 blockSteps s = 31 * (52 * s + 17 * (7 * (s * s) + 50 * s) + 2) + 16 * s
+
+-- what a call or a watch hands back: masked products, random bytes, steps
+unfoldable pub figures : ℕ → List ℕ
+figures s = blockProducts ∷ bytesFor 4 (blockDraws s) ∷ blockSteps s ∷ []

@@ -6,9 +6,9 @@ ghost use Rattle.steps.specs.Tape.{elements};
 ghost use Rattle.steps.specs.Machine.{zeroCounts, Ready, Went};
 ghost use Rattle.present.specs.Present.{size80};
 ghost use Rattle.present.specs.Masked.{maskedEncrypt};
-ghost use Rattle.layers.specs.State.{sharesOf, sharing};
-ghost use Rattle.cipher.specs.Box.{recordSbox, Closed};
-ghost use Rattle.cipher.specs.Rounds.{Loaded};
+ghost use Rattle.layers.specs.State.{sharesOf, sharing, ZeroPast};
+ghost use Rattle.cipher.specs.Box.{recordSbox};
+ghost use Rattle.cipher.specs.Rounds.{Closed, Loaded};
 ghost use Rattle.cipher.specs.Figures.{blockProducts, blockDraws, blockSteps};
 use crate::linear::add_round_key;
 use crate::rounds::RoundState;
@@ -41,7 +41,7 @@ fn load(key: &[u8], block: &[u8]) -> RoundState
     }
 }
 
-// The masked block of the shares of a key, 10 bytes each, and of a block, 8 bytes each.
+// The masked block of the shares of a key, 10 bytes each, and of a block, 8 bytes each. The 72 bytes of the result are zero past the shares.
 pub fn encrypt(
     s: usize,
     rec: &[u8],
@@ -57,6 +57,7 @@ pub fn encrypt(
     ensures { λ r. ⌜ Went blockProducts (blockDraws s) (blockSteps s) (elements 4 (now (random .entry))) (now (watch .entry))
         (maskedEncrypt (recordSbox s (now (rec .entry))) size80 s (sharesOf 10 s (now (key .entry))) (sharesOf 8 s (now (block .entry))))
         zeroCounts (now (values .entry)) (sharing 8 s (r .block)) (r .counts) (now (values .exit)) ⌝ }
+    ensures { λ r. ⌜ ZeroPast 8 s (r .block) ⌝ }
 {
     let t = load(key, block);
     let t = rounds(s, rec, random, watch, &mut *values, t);

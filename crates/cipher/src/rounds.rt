@@ -8,9 +8,9 @@ ghost use Rattle.steps.specs.Loop.{each};
 ghost use Rattle.sbox.specs.Figures.{sboxProducts, sboxDraws, sboxSteps};
 ghost use Rattle.present.specs.Present.{size80};
 ghost use Rattle.present.specs.Masked.{maskedUpdate, maskedRound};
-ghost use Rattle.layers.specs.State.{sharing};
-ghost use Rattle.cipher.specs.Box.{recordSbox, Closed};
-ghost use Rattle.cipher.specs.Rounds.{sharings};
+ghost use Rattle.layers.specs.State.{sharing, KeptPast};
+ghost use Rattle.cipher.specs.Box.{recordSbox};
+ghost use Rattle.cipher.specs.Rounds.{Closed, sharings, ZeroPastShares};
 ghost use Rattle.cipher.specs.Figures.{roundProducts, roundDraws, roundSteps};
 use crate::linear::add_round_key;
 use crate::linear::permutation;
@@ -27,7 +27,7 @@ pub struct RoundState {
     pub counts: Counts,
 }
 
-// The key update of round r.
+// The key update of round r. Bytes past the shares in use are kept.
 pub fn update_key(
     s: usize,
     rec: &[u8],
@@ -44,13 +44,14 @@ pub fn update_key(
     ensures { λ w. ⌜ Went (sboxProducts 4) (sboxDraws 4 s) (20 * s + sboxSteps 4 s + 2) (elements 4 (now (random .entry))) (now (watch .entry))
         (maskedUpdate (recordSbox s (now (rec .entry))) size80 s r (sharing 10 s (now (key .entry))))
         n (now (values .entry)) (sharing 10 s (now (key .exit))) w (now (values .exit)) ⌝ }
+    ensures { λ _. ⌜ KeptPast 10 s (now (key .entry)) (now (key .exit)) ⌝ }
 {
     let n = rotation(s, random, watch, &mut *values, &mut *key, n);
     let n = sbox_nibble(10, s, 19, rec, random, watch, &mut *values, &mut *key, n);
     round_number(s, r, random, watch, values, key, n)
 }
 
-// Round r.
+// Round r. The state is zero past the shares, before it and after it.
 pub fn round(
     s: usize,
     rec: &[u8],
@@ -63,9 +64,11 @@ pub fn round(
     requires { ⌜ (0 < s) × (s ≤ 9) × (r < 32) × (33 ≤ length (now rec)) ⌝ }
     requires { ⌜ Closed s (elements 4 (now random)) (recordSbox s (now rec)) ⌝ }
     requires { ⌜ Ready roundProducts (roundDraws s) (roundSteps s) (t .counts) (elements 4 (now random)) (now watch) (now values) ⌝ }
+    requires { ⌜ ZeroPastShares s t ⌝ }
     ensures { λ w. ⌜ Went roundProducts (roundDraws s) (roundSteps s) (elements 4 (now (random .entry))) (now (watch .entry))
         (maskedRound (recordSbox s (now (rec .entry))) size80 s r (sharings s t))
         (t .counts) (now (values .entry)) (sharings s w) (w .counts) (now (values .exit)) ⌝ }
+    ensures { λ w. ⌜ ZeroPastShares s w ⌝ }
 {
     let mut block = t.block;
     let mut key = t.key;
@@ -80,7 +83,7 @@ pub fn round(
     }
 }
 
-// Rounds 1 to 31.
+// Rounds 1 to 31. The state is zero past the shares, before them and after them.
 pub fn rounds(
     s: usize,
     rec: &[u8],
@@ -93,10 +96,12 @@ pub fn rounds(
     requires { ⌜ Closed s (elements 4 (now random)) (recordSbox s (now rec)) ⌝ }
     requires { ⌜ Ready (each roundProducts 32 1) (each (roundDraws s) 32 1) (each (roundSteps s) 32 1)
         (t .counts) (elements 4 (now random)) (now watch) (now values) ⌝ }
+    requires { ⌜ ZeroPastShares s t ⌝ }
     ensures { λ w. ⌜ Went (each roundProducts 32 1) (each (roundDraws s) 32 1) (each (roundSteps s) 32 1)
         (elements 4 (now (random .entry))) (now (watch .entry))
         (for 1 32 (maskedRound (recordSbox s (now (rec .entry))) size80 s) (sharings s t))
         (t .counts) (now (values .entry)) (sharings s w) (w .counts) (now (values .exit)) ⌝ }
+    ensures { λ w. ⌜ ZeroPastShares s w ⌝ }
 {
     let mut t = t;
     let mut r = 1u8;

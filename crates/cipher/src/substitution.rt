@@ -1,4 +1,4 @@
-// The S-box on the nibbles of a block and of a key.
+// The S-box on the nibbles of a block and of a key. Bytes past the shares in use are kept.
 ghost use Prim.Native.Nat.{_*_, _<_, _≤_};
 ghost use lib.ListN.{length};
 ghost use Rattle.steps.specs.Tape.{elements};
@@ -6,8 +6,9 @@ ghost use Rattle.steps.specs.Machine.{Ready, Went};
 ghost use Rattle.steps.specs.Loop.{each};
 ghost use Rattle.sbox.specs.Figures.{sboxProducts, sboxDraws, sboxSteps};
 ghost use Rattle.present.specs.Masked.{maskedNibble, maskedSboxLayer};
-ghost use Rattle.layers.specs.State.{sharing};
-ghost use Rattle.cipher.specs.Box.{recordSbox, Closed};
+ghost use Rattle.layers.specs.State.{sharing, KeptPast};
+ghost use Rattle.cipher.specs.Box.{recordSbox};
+ghost use Rattle.cipher.specs.Rounds.{Closed};
 use steps::Counts;
 
 // The S-box on nibble k of each share, of w bytes.
@@ -28,6 +29,7 @@ pub fn sbox_nibble(
     ensures { λ r. ⌜ Went (sboxProducts 4) (sboxDraws 4 s) (sboxSteps 4 s) (elements 4 (now (random .entry))) (now (watch .entry))
         (maskedNibble (recordSbox s (now (rec .entry))) k (sharing w s (now (l .entry))))
         n (now (values .entry)) (sharing w s (now (l .exit))) r (now (values .exit)) ⌝ }
+    ensures { λ _. ⌜ KeptPast w s (now (l .entry)) (now (l .exit)) ⌝ }
 {
     let x = layers::column(w, s, k, l);
     let y = sbox::run(4, s, rec, &x, random, watch, values, n);
@@ -54,6 +56,7 @@ pub fn sbox_layer(
         (elements 4 (now (random .entry))) (now (watch .entry))
         (maskedSboxLayer (recordSbox s (now (rec .entry))) (sharing 8 s (now (block .entry))))
         n (now (values .entry)) (sharing 8 s (now (block .exit))) r (now (values .exit)) ⌝ }
+    ensures { λ _. ⌜ KeptPast 8 s (now (block .entry)) (now (block .exit)) ⌝ }
 {
     let mut n = n;
     let mut k = 0;

@@ -5,7 +5,7 @@ use Prim.Native.Nat.{ℕ, _+_, _≤_, _<_, _^_}
 use native.Mathlib.Omega.{arith}
 use lib.ListN.{length, getD, drop, length-append}
 use borrow.Author.Tests.{le-leb, eq-eqb}
-use Rattle.xor.specs.Sum.{Small as SmallList}
+use Rattle.xor.specs.Sum.{Small}
 use Rattle.refusal.specs.Large.{firstLarge}
 use Rattle.refusal.specs.Outcome.{done, Outcome, andThen}
 use Rattle.decomposition.specs.Check.{checkAt, checkOutcome, firstDifference, recordForm}
@@ -18,7 +18,7 @@ use Rattle.decomposition.proofs.Sizes.{layout-width, sizes}
 use Rattle.refusal.proofs.Large.{large-second, none-large}
 
 module _ (n : ℕ) (w : Known n) (basis p : List ℕ) (eb : length basis ≡ layout n .basis) (ep : length p ≡ layout n .unknowns)
-    (sb : SmallList (layout n .width) basis) (sp : SmallList (layout n .width) p) where
+    (sb : Small (layout n .width) basis) (sp : Small (layout n .width) p) where
   r : List ℕ
   r = recordOf (layout n) basis p
 
@@ -54,7 +54,7 @@ module _ (n : ℕ) (w : Known n) (basis p : List ℕ) (eb : length basis ≡ lay
         layout-width n,
       ) refl
 
-  module _ (table : List ℕ) (et : length table ≡ layout n .inputs) (st : SmallList (layout n .width) table)
+  module _ (table : List ℕ) (et : length table ≡ layout n .inputs) (st : Small (layout n .width) table)
       (equal : (x : ℕ) → x < 2 ^ layout n .width → form (layout n) basis p x ≡ getD table x 0) where
     -- the record's form computes the table
     agrees : firstDifference (recordForm (layout n) r) table ≡ length table

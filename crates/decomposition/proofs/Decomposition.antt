@@ -19,7 +19,7 @@ use Rattle.linear.proofs.Row.{agree-sym, dot-none}
 use Rattle.linear.proofs.Scalars.{laws-of}
 use Rattle.linear.proofs.System.{canonical-agree, canonical-unique, free-rows}
 use Rattle.decomposition.specs.Equations.{system}
-use Rattle.decomposition.specs.Form.{Computes, Decomposition, NoDecomposition, column}
+use Rattle.decomposition.specs.Form.{Computes, Decomposition, NoDecomposition, unknownColumn}
 use Rattle.decomposition.specs.Layout.{Sizes}
 use Rattle.decomposition.specs.declared.layouts.Layout.{Layout}
 use Rattle.decomposition.proofs.Columns.{equation-column, equation-right, equation-small, form-equation}
@@ -53,7 +53,7 @@ small-list n l h k = elim (decLt k (length l)) [
 
 module _ {L : Layout} (z : Sizes L) (table basis : List ℕ) (sb : SmallList (L .width) basis) where
   -- before the right side, the equations are the columns
-  system-columns : (x : ℕ) → x < 2 ^ L .width → Agree (L .unknowns) (system L table basis x) (column L basis x)
+  system-columns : (x : ℕ) → x < 2 ^ L .width → Agree (L .unknowns) (system L table basis x) (unknownColumn L basis x)
   system-columns x h = record { at = λ k l. equation-column L basis x (getD table x 0) k l }
 
   -- p meets the table if and only if it solves the equations

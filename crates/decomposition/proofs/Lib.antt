@@ -10,5 +10,6 @@ pub mod Ready
 pub mod Solved
 pub mod ReadOutcome
 pub mod Settled
+pub mod Total
 pub mod Accepted
 pub mod Theorems

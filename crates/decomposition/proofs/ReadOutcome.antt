@@ -8,10 +8,10 @@ use lib.Dec.{leb, eqb}
 use lib.ListN.{length, getD, drop, length-drop}
 use lib.Pow.{pow-pos}
 use lib.Seq.{getD-drop}
-use borrow.Author.Tests.{eqb-true, leb-true}
+use borrow.Author.Tests.{eqb-true, leb-true, eq-eqb, le-leb}
 use Rattle.refusal.specs.Large.{firstLarge}
 use Rattle.refusal.specs.Outcome.{done}
-use Rattle.refusal.proofs.Large.{all-small}
+use Rattle.refusal.proofs.Large.{all-small, none-large}
 use Rattle.refusal.proofs.Outcome.{passed, done-values}
 use Rattle.decomposition.specs.Check.{checkAt, firstDifference, recordForm}
 use Rattle.decomposition.specs.Form.{Computes}
@@ -33,6 +33,7 @@ read-values r h =
     let e = passed (leb (length (drop 6 r)) (firstLarge bound (drop 6 r))) 3 (6 + firstLarge bound (drop 6 r)) _ (d .1) in
     let i : bound ≡ 2 ^ n = sizes n (c .0) .inputs ∙ ap (λ (k : ℕ). 2 ^ k) (layout-width n) in (
       record {
+        mark = b .0;
         width = c .0;
         named = refl;
         whole = eqb-true (length r) (layout n .size) (d .0);
@@ -48,6 +49,23 @@ read-accepted r n h =
     let a = read-values r h in
     let e : getD r 5 0 ≡ n = cc (a .1) in
     subst (λ (k : ℕ). Accepted k r) e (a .0)
+
+-- and Read accepts such a record
+pub accepted-read : (r : List ℕ) (n : ℕ) → Accepted n r → readOutcome r ≡ done (n ∷ [])
+unfolding readOutcome
+accepted-read r n a =
+    let L = layout n in
+    let z = sizes n (a .width) in
+    let i : 2 ^ n ≡ L .inputs = ap (λ (k : ℕ). 2 ^ k) (sym (layout-width n)) ∙ sym (z .inputs) in
+    rw (
+      le-leb 6 (length r) (omega (arith, a .whole, z .whole, z .solution)),
+      a .mark,
+      a .named,
+      a .width,
+      eq-eqb (length r) (L .size) (a .whole),
+      le-leb (length (drop 6 r)) (firstLarge (L .inputs) (drop 6 r)) (none-large (L .inputs) (drop 6 r) (λ k. rw (← i) (a .elements k))),
+      layout-width n,
+    ) refl
 
 -- where Check's tests of the table are passed too, its form computes the table
 pub accepted-computes : (n : ℕ) (r table : List ℕ) → Accepted n r → checkAt (layout n) r table ≡ done []

@@ -11,47 +11,44 @@ use Rattle.refusal.specs.Large.{firstLarge}
 use Rattle.refusal.specs.Outcome.{Outcome, done, refused}
 use Rattle.refusal.proofs.Large.{all-small, both-small}
 use Rattle.refusal.proofs.Outcome.{passed}
-use Rattle.decomposition.specs.Equations.{FitReady}
-use Rattle.decomposition.specs.Fit.{AfterTests, Found, fitTests, Fits}
+use Rattle.decomposition.specs.Fit.{FitCall, FitEnd, fitTests, FitReady, AfterTests, Found, IsFit}
 use Rattle.decomposition.specs.Layout.{Sizes, layout, Known}
 use Rattle.decomposition.specs.declared.layouts.Layout.{Layout}
 
-module _ (L : Layout) (table basis work out : List ℕ) where
+module _ (L : Layout) (c : FitCall) where
   -- what the tests refuse is refused, and nothing is changed
-  pub refused-at : (number place : ℕ) {T : Outcome} → T ≡ refused number place → AfterTests L table basis work out work out (refused number place) T
-  refused-at number place h = subst (AfterTests L table basis work out work out (refused number place)) (sym h) (refl, refl, refl)
+  pub refused-at : (number place : ℕ) {T : Outcome} → T ≡ refused number place
+      → AfterTests L c (record { outcome = refused number place; work = c .work; out = c .out }) T
+  refused-at number place h =
+      subst (AfterTests L c (record { outcome = refused number place; work = c .work; out = c .out })) (sym h) (refl, refl, refl)
 
-  pub passed-at : (work' out' : List ℕ) (r : Outcome) {T : Outcome} {values : List ℕ} → T ≡ done values
-      → (work' ≡ replicate (length work) 0) × Found L table basis out out' r → AfterTests L table basis work out work' out' r T
-  passed-at work' out' r h x = subst (AfterTests L table basis work out work' out' r) (sym h) x
+  pub passed-at : (e : FitEnd) {T : Outcome} {values : List ℕ} → T ≡ done values
+      → (e .work ≡ replicate (length (c .work)) 0) × Found L c (e .out) (e .outcome) → AfterTests L c e T
+  passed-at e h x = subst (AfterTests L c e) (sym h) x
 
   -- where all are passed, lengths and entries are right
-  pub fit-ready : Sizes L → {values : List ℕ} → fitTests L table basis (length work) (length out) ≡ done values → FitReady L table basis work out
+  pub fit-ready : Sizes L → {values : List ℕ} → fitTests L (c .table) (c .basis) (length (c .work)) (length (c .out)) ≡ done values → FitReady L c
   fit-ready z h =
       let bound = L .inputs in
-      let a = passed (eqb (length table) bound) 2 0 _ h in
-      let b = passed (eqb (length basis) (L .basis)) 2 0 _ (a .1) in
-      let c = passed (eqb (length work) (L .work)) 2 0 _ (b .1) in
-      let d = passed (eqb (length out) (L .size)) 2 0 _ (c .1) in
-      let e = passed (leb (length (table ++ basis)) (firstLarge bound (table ++ basis))) 3 (0 + firstLarge bound (table ++ basis)) _ (d .1) in
-      let s = both-small bound table basis (leb-true (length (table ++ basis)) (firstLarge bound (table ++ basis)) (e .0)) in
+      let all = c .table ++ c .basis in
+      let a = passed (eqb (length (c .table)) bound) 2 0 _ h in
+      let b = passed (eqb (length (c .basis)) (L .basis)) 2 0 _ (a .1) in
+      let d = passed (eqb (length (c .work)) (L .work)) 2 0 _ (b .1) in
+      let e = passed (eqb (length (c .out)) (L .size)) 2 0 _ (d .1) in
+      let f = passed (leb (length all) (firstLarge bound all)) 3 (0 + firstLarge bound all) _ (e .1) in
+      let s = both-small bound (c .table) (c .basis) (leb-true (length all) (firstLarge bound all) (f .0)) in
       let p : 0 < bound = omega (arith, z .inputs, pow-pos (L .width)) in
       record {
-        inputs = eqb-true (length table) bound (a .0);
-        whole = eqb-true (length basis) (L .basis) (b .0);
-        room = eqb-true (length work) (L .work) (c .0);
-        record-room = eqb-true (length out) (L .size) (d .0);
-        entries = λ k. rw (← z .inputs) (all-small bound table p (s .0) k);
-        elements = λ k. rw (← z .inputs) (all-small bound basis p (s .1) k);
+        inputs = eqb-true (length (c .table)) bound (a .0);
+        whole = eqb-true (length (c .basis)) (L .basis) (b .0);
+        room = eqb-true (length (c .work)) (L .work) (d .0);
+        record-room = eqb-true (length (c .out)) (L .size) (e .0);
+        entries = λ k. rw (← z .inputs) (all-small bound (c .table) p (s .0) k);
+        elements = λ k. rw (← z .inputs) (all-small bound (c .basis) p (s .1) k);
       }
 
-  pub fits-at : (n : ℕ) → Known n → L ≡ layout n → (work' out' : List ℕ) (r : Outcome)
-      → AfterTests L table basis work out work' out' r (fitTests L table basis (length work) (length out)) → Fits n table basis work out work' out' r
-  fits-at n w e work' out' r h =
-      rw w
-      (subst (λ (M : Layout). AfterTests M table basis work out work' out' r (fitTests M table basis (length work) (length out))) e h)
-
--- the same where the outcome goes by another name
-pub fits-as : (n : ℕ) (table basis work out work' out' : List ℕ) {r s : Outcome} → r ≡ s
-    → Fits n table basis work out work' out' r → Fits n table basis work out work' out' s
-fits-as n table basis work out work' out' e h = subst (λ (t : Outcome). Fits n table basis work out work' out' t) e h
+  -- a fit at the layout of a known width
+  pub fit-at-width : (n : ℕ) → Known n → L ≡ layout n → (e : FitEnd)
+      → AfterTests L c e (fitTests L (c .table) (c .basis) (length (c .work)) (length (c .out))) → IsFit n c e
+  fit-at-width n w i e h =
+      rw w (subst (λ (M : Layout). AfterTests M c e (fitTests M (c .table) (c .basis) (length (c .work)) (length (c .out)))) i h)

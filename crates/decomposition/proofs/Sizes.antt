@@ -85,6 +85,15 @@ sizes n k =
       few-terms = f .few-terms;
     }
 
+-- the numbers that the paper names: the lengths of a record and of the work of a fit
+pub sizes-4 : (layout 4 .size ≡ 33) × (layout 4 .work ≡ 448)
+unfolding layout sized termsOf
+sizes-4 = rw length-exponents-4 (refl, refl)
+
+pub sizes-6 : (layout 6 .size ≡ 139) × (layout 6 .work ≡ 6144)
+unfolding layout sized termsOf
+sizes-6 = rw length-exponents-6 (refl, refl)
+
 pub layout-width : (n : ℕ) → layout n .width ≡ n
 unfolding layout sized
 layout-width n = refl

@@ -1,26 +1,27 @@
 -- What is proved of decompositions, of Fit and House fit, and of the records that they write.
 use mathlib.Core.List.{List, [], _∷_}
 use mathlib.Core.Logic.{⊎-elim}
-use mathlib.Core.Path.{_≡_, ap, _∙_, subst, refl}
+use mathlib.Core.Path.{_≡_, refl, sym, ap, subst, _∙_}
 use Prim.Native.Nat.{ℕ, _^_, _<_}
 use native.Mathlib.Omega.{arith}
 use lib.ListN.{length, getD, replicate}
 use Rattle.xor.specs.Sum.{Small}
 use Rattle.refusal.specs.Large.{firstLarge}
-use Rattle.refusal.specs.Outcome.{Outcome, done, refused, test, andThen}
+use Rattle.refusal.specs.Outcome.{Outcome, done, refused, andThen}
 use Rattle.refusal.proofs.Outcome.{passed}
 use Rattle.field.proofs.Polynomial.{length-exponents-4}
 use Rattle.decomposition.specs.Check.{checkOutcome, checkAt}
-use Rattle.decomposition.specs.Fit.{AfterTests, Fits, fitTests, HouseFits, houseBasis}
+use Rattle.decomposition.specs.Fit.{FitCall, FitEnd, allTests, fitOutcome, fitWork, fitRecord, fitEnd, houseBasis, houseCall, Found, AfterTests, IsFit}
 use Rattle.decomposition.specs.Form.{Computes, Decomposition, form}
 use Rattle.decomposition.specs.Layout.{known, layout, sized, termsOf, Known}
 use Rattle.decomposition.specs.Record.{basisOf, readOutcome, recordOf, solutionOf}
 use Rattle.decomposition.proofs.Accepted.{written-check, written-read}
 use Rattle.decomposition.proofs.Decomposition.{decomposition-exists, decomposition-unique, zero-decomposition}
 use Rattle.decomposition.proofs.ReadOutcome.{read-values, accepted-computes}
-use Rattle.decomposition.proofs.Ready.{fit-ready, fits-as}
+use Rattle.decomposition.proofs.Ready.{fit-ready}
 use Rattle.decomposition.proofs.Settled.{Passed, fit-cases, fit-settled}
 use Rattle.decomposition.proofs.Sizes.{layout-width, sizes}
+use Rattle.decomposition.proofs.Total.{fit-total}
 
 -- ---- THE decomposition
 
@@ -44,55 +45,57 @@ meets-table n table basis p d x h = d .computes .equal x (rw (layout-width n) h)
 
 -- ---- Fit, and House fit, which is a fit of width 4
 
--- its outcome is settled, and every byte that it is lent for writing
-pub one-outcome : (n : ℕ) (table basis work out work₁ out₁ work₂ out₂ : List ℕ) (r s : Outcome)
-    → Fits n table basis work out work₁ out₁ r → Fits n table basis work out work₂ out₂ s → (r ≡ s) × (work₁ ≡ work₂) × (out₁ ≡ out₂)
+-- every call has an end that meets what is asked: the one that the contracts equate with
+pub one-end : (n : ℕ) (c : FitCall) → IsFit n c (fitEnd n c)
+one-end = fit-total
+
+-- and no other end does: the outcome is settled, and every byte lent for writing
+pub one-outcome : (n : ℕ) (c : FitCall) (e e′ : FitEnd) → IsFit n c e → IsFit n c e′ → e ≡ e′
 one-outcome = fit-settled
 
 -- it refuses by 4 only if no p meets the table
-pub four-means-none : (n : ℕ) (table basis work out work' out' : List ℕ) (place : ℕ) → Fits n table basis work out work' out' (refused 4 place)
-    → (p : List ℕ) → Computes (layout n) table basis p → ⊥
-four-means-none n table basis work out work' out' place f p c =
-    ⊎-elim (λ x. let e : 4 ≡ x .number = number-of (x .is) in omega (arith, x .small)) (λ x. x .found .none .never p c)
-    (fit-cases n table basis work out work' out' (refused 4 place) f)
+pub four-means-none : (n : ℕ) (c : FitCall) (place : ℕ) → fitOutcome n c ≡ refused 4 place
+    → (p : List ℕ) → Computes (layout n) (c .table) (c .basis) p → ⊥
+four-means-none n c place h p m =
+    ⊎-elim (λ x. let e : 4 ≡ x .number = number-of (sym h ∙ x .is) in omega (arith, x .small))
+    (λ x. subst (Found (layout n) c (fitRecord n c)) h (x .found) .none .never p m) (fit-cases n c (fitEnd n c) (fit-total n c))
   where
     number-of : {k p : ℕ} → refused 4 place ≡ refused k p → 4 ≡ k
     number-of e = cc
 
 -- it succeeds whenever no test refuses and any p meets the table
-pub succeeds : (n : ℕ) (table basis work out work' out' : List ℕ) (r : Outcome) (p : List ℕ)
-    → test (known n) 1 0 (fitTests (layout n) table basis (length work) (length out)) ≡ done []
-    → Computes (layout n) table basis p → Fits n table basis work out work' out' r → r ≡ done []
-succeeds n table basis work out work' out' r p t c f = go r (subst (AfterTests (layout n) table basis work out work' out' r) t f)
+pub succeeds : (n : ℕ) (c : FitCall) (p : List ℕ) → allTests n c ≡ done [] → Computes (layout n) (c .table) (c .basis) p → fitOutcome n c ≡ done []
+succeeds n c p t m = go (fitOutcome n c) (subst (AfterTests (layout n) c (fitEnd n c)) t (fit-total n c) .1)
   where
-    go : (r : Outcome) → AfterTests (layout n) table basis work out work' out' r (done []) → r ≡ done []
-    go (done values) h = ap done (h .1 .nothing-more)
-    go (refused number place) h = absurd (h .1 .none .never p c)
+    go : (r : Outcome) → Found (layout n) c (fitRecord n c) r → r ≡ done []
+    go (done values) h = ap done (h .nothing-more)
+    go (refused number place) h = absurd (h .none .never p m)
 
 -- ---- the record that a fit writes
 
-module _ (n : ℕ) (table basis work out work' out' values : List ℕ) (f : Fits n table basis work out work' out' (done values)) where
-  passed-all : Passed n table basis work out work' out' (done values)
-  passed-all = ⊎-elim (λ x. absurd (never (x .is))) (λ x. x) (fit-cases n table basis work out work' out' (done values) f)
+module _ (n : ℕ) (c : FitCall) {values : List ℕ} (f : fitOutcome n c ≡ done values) where
+  passed-all : Passed n c (record { outcome = done values; work = fitWork n c; out = fitRecord n c })
+  passed-all = ⊎-elim (λ x. absurd (never (x .is))) (λ x. x)
+      (fit-cases n c _ (subst (λ (o : Outcome). IsFit n c (record { outcome = o; work = fitWork n c; out = fitRecord n c })) f (fit-total n c)))
     where
       never : {k p : ℕ} → done values ≡ refused k p → ⊥
       never e = let q : _≡_ {A = ℕ} 0 1 = cc in omega arith
 
   -- Read accepts it
-  pub fit-then-read : readOutcome out' ≡ done (n ∷ [])
+  pub fit-then-read : readOutcome (fitRecord n c) ≡ done (n ∷ [])
   fit-then-read =
       let x = passed-all in
       let d = x .found .decomposition .computes in
       ap readOutcome (x .found .whole)
-      ∙ written-read n (x .width) basis (x .found .p) (x .ready .whole) (d .unknowns) (x .ready .elements) (d .elements)
+      ∙ written-read n (x .width) (c .basis) (x .found .p) (x .ready .whole) (d .unknowns) (x .ready .elements) (d .elements)
 
   -- Check accepts it with the table
-  pub fit-then-check : checkOutcome out' table ≡ done []
+  pub fit-then-check : checkOutcome (fitRecord n c) (c .table) ≡ done []
   fit-then-check =
       let x = passed-all in
       let d = x .found .decomposition .computes in
-      ap (λ (r : List ℕ). checkOutcome r table) (x .found .whole)
-      ∙ written-check n (x .width) basis (x .found .p) (x .ready .whole) (d .unknowns) (x .ready .elements) (d .elements) table
+      ap (λ (r : List ℕ). checkOutcome r (c .table)) (x .found .whole)
+      ∙ written-check n (x .width) (c .basis) (x .found .p) (x .ready .whole) (d .unknowns) (x .ready .elements) (d .elements) (c .table)
       (x .ready .inputs) (x .ready .entries) (d .equal)
 
 -- ---- Check
@@ -111,30 +114,29 @@ check-computes r table = go (readOutcome r) refl
 -- ---- the zero table
 
 -- the zero table is decomposed by zero, over any basis
-pub zero-table : (n : ℕ) (basis work out work' out' : List ℕ) (r : Outcome)
-    → test (known n) 1 0 (fitTests (layout n) (replicate (2 ^ n) 0) basis (length work) (length out)) ≡ done []
-    → Fits n (replicate (2 ^ n) 0) basis work out work' out' r
-    → (r ≡ done []) × (out' ≡ recordOf (layout n) basis (replicate (layout n .unknowns) 0))
-zero-table n basis work out work' out' r t f =
+pub zero-table : (n : ℕ) (c : FitCall) → c .table ≡ replicate (2 ^ n) 0 → allTests n c ≡ done []
+    → (fitOutcome n c ≡ done []) × (fitRecord n c ≡ recordOf (layout n) (c .basis) (replicate (layout n .unknowns) 0))
+zero-table n c q t =
+    let L = layout n in
+    let zeros : List ℕ = replicate (L .unknowns) 0 in
     let a = passed (known n) 1 0 _ t in
     let z = sizes n (a .0) in
-    let y = fit-ready (layout n) (replicate (2 ^ n) 0) basis work out z (a .1) in
-    let i : layout n .inputs ≡ 2 ^ n = z .inputs ∙ ap (λ (k : ℕ). 2 ^ k) (layout-width n) in
-    let d : Decomposition (layout n) (replicate (2 ^ n) 0) basis (replicate (layout n .unknowns) 0) =
-    subst (λ (k : ℕ). Decomposition (layout n) (replicate k 0) basis (replicate (layout n .unknowns) 0)) i
-    (zero-decomposition z basis (y .elements)) in
-    let e = succeeds n (replicate (2 ^ n) 0) basis work out work' out' r (replicate (layout n .unknowns) 0) t (d .computes) f in
-    let h = fits-as n (replicate (2 ^ n) 0) basis work out work' out' e f in
-    let g = passed-all n (replicate (2 ^ n) 0) basis work out work' out' [] h .found in (
+    let y = fit-ready L c z (a .1) in
+    let i : L .inputs ≡ 2 ^ n = z .inputs ∙ ap (λ (k : ℕ). 2 ^ k) (layout-width n) in
+    let d : Decomposition L (c .table) (c .basis) zeros =
+    subst (λ (table : List ℕ). Decomposition L table (c .basis) zeros) (ap (λ (k : ℕ). replicate k 0) i ∙ sym q)
+    (zero-decomposition z (c .basis) (y .elements)) in
+    let e = succeeds n c zeros t (d .computes) in
+    let g = passed-all n c e .found in (
       e,
-      g .whole ∙ ap (recordOf (layout n) basis)
-          (decomposition-unique z (replicate (2 ^ n) 0) basis (y .elements) (y .entries) (g .p) (replicate (layout n .unknowns) 0)
-          (g .decomposition) d),
+      g .whole
+          ∙ ap (recordOf L (c .basis)) (decomposition-unique z (c .table) (c .basis) (y .elements) (y .entries) (g .p) zeros (g .decomposition) d),
     )
 
 -- paper check (k): with the house basis
-pub zero-house : (work out work' out' : List ℕ) (r : Outcome) → length work ≡ 448 → length out ≡ 33
-    → HouseFits (replicate 16 0) work out work' out' r → (r ≡ done []) × (out' ≡ recordOf (layout 4) houseBasis (replicate 18 0))
+pub zero-house : (work out : List ℕ) → length work ≡ 448 → length out ≡ 33
+    → let c = houseCall (replicate 16 0) work out in
+    (fitOutcome 4 c ≡ done []) × (fitRecord 4 c ≡ recordOf (layout 4) houseBasis (replicate 18 0))
 unfolding layout sized termsOf houseBasis firstLarge
-zero-house work out work' out' r lw lo f =
-    rw length-exponents-4 at (zero-table 4 houseBasis work out work' out' r (rw (lw, lo, length-exponents-4) refl) f)
+zero-house work out lw lo =
+    rw length-exponents-4 at (zero-table 4 (houseCall (replicate 16 0) work out) refl (rw (lw, lo, length-exponents-4) refl))

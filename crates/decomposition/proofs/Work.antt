@@ -8,12 +8,11 @@ use native.Mathlib.Numerals.{add-one}
 use native.Mathlib.Omega.{arith}
 use lib.ListN.{getD}
 use Rattle.xor.specs.Sum.{Small as SmallList}
-use Rattle.refusal.specs.Outcome.{done}
-use Rattle.linear.specs.Buffer.{cell, from, Filled}
+use Rattle.linear.specs.Buffer.{cell, from, Overwritten}
 use Rattle.linear.specs.Row.{Agree}
 use Rattle.linear.specs.Scalars.{scalars}
 use Rattle.linear.specs.System.{Elements}
-use Rattle.linear.proofs.Buffer.{filled-other, filled-row, row-room}
+use Rattle.linear.proofs.Buffer.{overwritten-other, overwritten-row, row-room}
 use Rattle.decomposition.specs.Equations.{Powers, Rows, system}
 use Rattle.decomposition.specs.Form.{monomial}
 use Rattle.decomposition.specs.Layout.{Sizes}
@@ -26,10 +25,10 @@ pub powers-none : (n e b : ℕ) (l : List ℕ) → Powers n e 0 b l
 powers-none n e b l = record { at = λ x j h. absurd (omega arith) }
 
 -- one input more
-pub powers-more : {n e m b : ℕ} {l l' : List ℕ} → Powers n e m b l → Filled l l' (b + m * e) e (monomial n m) → Powers n e (m + 1) b l'
+pub powers-more : {n e m b : ℕ} {l l' : List ℕ} → Powers n e m b l → Overwritten l l' (b + m * e) e (monomial n m) → Powers n e (m + 1) b l'
 powers-more {n} {e} {m} {b} {l} {l'} p u = record {
   at = λ x j h g. elim (ℕ-discrete x m) [
-    | yes q ↦ rw (q, ← add-assoc b (m * e) j) (u .done j g)
+    | yes q ↦ rw (q, ← add-assoc b (m * e) j) (u .new j g)
     | no ne ↦
         let xm : x < m = omega arith in
         u .low (b + (x * e + j)) (omega (arith, row-room e xm (le-refl (m * e)))) ∙ p .at x j xm g
@@ -37,7 +36,7 @@ powers-more {n} {e} {m} {b} {l} {l'} p u = record {
 }
 
 -- what is written below b leaves the powers as they were
-pub powers-kept : {n e m b a k : ℕ} {l l' : List ℕ} {v : ℕ → ℕ} → Powers n e m b l → Filled l l' a k v → a + k ≤ b → Powers n e m b l'
+pub powers-kept : {n e m b a k : ℕ} {l l' : List ℕ} {v : ℕ → ℕ} → Powers n e m b l → Overwritten l l' a k v → a + k ≤ b → Powers n e m b l'
 powers-kept {e = e} {b = b} p u h = record { at = λ x j g f. u .high (b + (x * e + j)) (omega arith) ∙ p .at x j g f }
 
 -- the powers of x, as a row
@@ -51,11 +50,11 @@ rows-none L table basis l = record { row = λ y h. absurd (omega arith) }
 
 -- one row more
 pub rows-more : {L : Layout} {x : ℕ} {table basis l l' : List ℕ} → Rows L table basis x l
-    → Filled l l' (x * (L .unknowns + 1)) (L .unknowns + 1) (system L table basis x) → Rows L table basis (x + 1) l'
+    → Overwritten l l' (x * (L .unknowns + 1)) (L .unknowns + 1) (system L table basis x) → Rows L table basis (x + 1) l'
 rows-more {L} {x} {table} {basis} {l} {l'} r u = record {
   row = λ y h. elim (ℕ-discrete y x) [
-    | yes p ↦ rw p (filled-row (L .unknowns + 1) x u)
-    | no ne ↦ record { at = λ k g. filled-other (L .unknowns + 1) x y u ne .at k g ∙ r .row y (omega arith) .at k g }
+    | yes p ↦ rw p (overwritten-row (L .unknowns + 1) x u)
+    | no ne ↦ record { at = λ k g. overwritten-other (L .unknowns + 1) x y u ne .at k g ∙ r .row y (omega arith) .at k g }
   ];
 }
 
@@ -71,16 +70,16 @@ rows-elements {L} {table} {basis} z st sb r = record {
 -- ---- bytes written one after the other
 
 -- two runs of bytes
-pub filled-join : {l₀ l l' : List ℕ} {a k e : ℕ} {v v' : ℕ → ℕ} → Filled l₀ l a k v → Filled l l' (a + k) e v'
-    → ((j : ℕ) → j < e → v' j ≡ v (k + j)) → Filled l₀ l' a (k + e) v
-filled-join {l₀} {l} {l'} {a} {k} {e} {v} {v'} u w h = record {
-  done = λ j b. elim (decLt j k) [
-    | yes g ↦ w .low (a + j) (omega arith) ∙ u .done j g
+pub overwritten-join : {l₀ l l' : List ℕ} {a k e : ℕ} {v v' : ℕ → ℕ} → Overwritten l₀ l a k v → Overwritten l l' (a + k) e v'
+    → ((j : ℕ) → j < e → v' j ≡ v (k + j)) → Overwritten l₀ l' a (k + e) v
+overwritten-join {l₀} {l} {l'} {a} {k} {e} {v} {v'} u w h = record {
+  new = λ j b. elim (decLt j k) [
+    | yes g ↦ w .low (a + j) (omega arith) ∙ u .new j g
     | no g ↦
         let i : ℕ = j - k in
         let q : k + i ≡ j = omega arith in
         let q' : a + k + i ≡ a + j = omega arith in
-        rw (← q') (w .done i (omega arith) ∙ h i (omega arith) ∙ ap v q)
+        rw (← q') (w .new i (omega arith) ∙ h i (omega arith) ∙ ap v q)
   ];
   low = λ j b. w .low j (omega arith) ∙ u .low j b;
   high = λ j b. w .high j (omega arith) ∙ u .high j (omega arith);

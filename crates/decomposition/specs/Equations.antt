@@ -1,19 +1,18 @@
--- The linear equations whose unknowns are the coefficients of p1 to pt, and how they lie in the work of Fit.
+-- For inner contracts only. The linear equations whose unknowns are the coefficients of p1 to pt, and how they lie in the work of Fit.
 use mathlib.Core.Bool.{cond}
 use mathlib.Core.List.{List}
 use mathlib.Core.Path.{_≡_}
 use Prim.Native.Nat.{ℕ, _+_, _*_, _≤_, _<_}
 use lib.Dec.{ltb}
 use lib.ListN.{length, getD}
-use Rattle.xor.specs.Sum.{Small}
 use Rattle.linear.specs.Buffer.{cell}
 use Rattle.linear.specs.Row.{Agree}
-use Rattle.decomposition.specs.Form.{monomial, column}
+use Rattle.decomposition.specs.Form.{monomial, unknownColumn}
 use Rattle.decomposition.specs.declared.layouts.Layout.{Layout}
 
 -- the equation at input x: the columns, and v as the right side
 unfoldable pub equation : Layout → List ℕ → ℕ → ℕ → ℕ → ℕ
-equation L basis x v k = cond (ltb k (L .unknowns)) (column L basis x k) v
+equation L basis x v k = cond (ltb k (L .unknowns)) (unknownColumn L basis x k) v
 
 -- the equations: a row for each input, and the table as the right side
 abbrev pub system : Layout → List ℕ → List ℕ → ℕ → ℕ → ℕ
@@ -39,12 +38,3 @@ pub record EquationsReady (L : Layout) (table basis l : List ℕ) : Type 0 where
   pub whole : length basis ≡ L .basis
   pub room : length l ≡ L .work
   pub powers : Powers (L .width) (L .exponents) (L .inputs) (L .powers) l
-
--- what a fit needs: all tests are passed
-pub record FitReady (L : Layout) (table basis work out : List ℕ) : Type 0 where
-  pub inputs : length table ≡ L .inputs
-  pub whole : length basis ≡ L .basis
-  pub room : length work ≡ L .work
-  pub record-room : length out ≡ L .size
-  pub entries : Small (L .width) table
-  pub elements : Small (L .width) basis

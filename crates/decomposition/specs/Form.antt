@@ -46,12 +46,12 @@ unfoldable pub monomial : ℕ → ℕ → ℕ → ℕ
 monomial n x j = pow n x (getD (exponents n) j 0)
 
 -- the column of unknown k: what the unknown is multiplied with at input x
-unfoldable pub column : Layout → List ℕ → ℕ → ℕ → ℕ
-column L basis x k = mul (L .width) (factor L basis (k / L .exponents) x) (monomial (L .width) x (k % L .exponents))
+unfoldable pub unknownColumn : Layout → List ℕ → ℕ → ℕ → ℕ
+unknownColumn L basis x k = mul (L .width) (factor L basis (k / L .exponents) x) (monomial (L .width) x (k % L .exponents))
 
 -- unknown k is free: its column of 2 ^ n values is a combination of earlier columns
 abbrev pub FreeUnknown : Layout → List ℕ → ℕ → Type 0
-FreeUnknown L basis k = Free (scalars (L .width)) (2 ^ L .width) (column L basis) k
+FreeUnknown L basis k = Free (scalars (L .width)) (2 ^ L .width) (unknownColumn L basis) k
 
 -- p is THE decomposition: it meets the table, and free unknowns are 0
 pub record Decomposition (L : Layout) (table basis p : List ℕ) : Type 0 where

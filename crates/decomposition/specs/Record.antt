@@ -1,5 +1,5 @@
 -- The record of a decomposition, and the operation Read.
-use mathlib.Core.Bool.{Bool, _&&_}
+use mathlib.Core.Bool.{Bool, true, _&&_}
 use mathlib.Core.List.{List, [], _∷_, _++_}
 use mathlib.Core.Path.{_≡_}
 use Prim.Native.Nat.{ℕ}
@@ -58,8 +58,9 @@ abbrev pub readReport : ReadAnswer → Outcome
 readReport (Done width) = done (width ∷ [])
 readReport (Refused number place) = refused number place
 
--- a record that Read accepts, of width n
+-- a record that Read accepts, of width n (proofs/ReadOutcome.antt, `read-accepted` and `accepted-read`)
 pub record Accepted (n : ℕ) (r : List ℕ) : Type 0 where
+  pub mark : marked r ≡ true
   pub width : Known n
   pub named : widthOf r ≡ n
   pub whole : length r ≡ layout n .size

@@ -5,7 +5,7 @@ ghost use lib.ListN.{length};
 ghost use Rattle.field.specs.Mul.{Width};
 ghost use Rattle.linear.specs.Scalars.{scalars};
 ghost use Rattle.linear.specs.Row.{Agree, times};
-ghost use Rattle.linear.specs.Buffer.{from, Filled};
+ghost use Rattle.linear.specs.Buffer.{from, Overwritten};
 ghost use Rattle.decomposition.specs.Layout.{Sizes};
 ghost use Rattle.decomposition.specs.Form.{monomial, factor};
 ghost use Rattle.decomposition.specs.Equations.{equation, Powers, Rows, EquationReady, EquationsReady};
@@ -34,7 +34,7 @@ pub fn powers(layout: Layout, work: &mut [u8])
 fn multiple(width: u32, count: usize, work: &mut [u8], a: usize, p: usize, f: u8)
     requires { ⌜ Width width ⌝ }
     requires { ⌜ (a + count ≤ p) × (p + count ≤ length (now work)) ⌝ }
-    ensures { λ _. ⌜ Filled (now (work .entry)) (now (work .exit)) a count (times (scalars width) f (from (now (work .entry)) p)) ⌝ }
+    ensures { λ _. ⌜ Overwritten (now (work .entry)) (now (work .exit)) a count (times (scalars width) f (from (now (work .entry)) p)) ⌝ }
 {
     let mut j = 0;
     while j < count {
@@ -65,7 +65,7 @@ fn equation_at(layout: Layout, basis: &[u8], work: &mut [u8], a: usize, p: usize
     requires { ⌜ Sizes layout ⌝ }
     requires { ⌜ EquationReady layout (now basis) (now work) a p ⌝ }
     ensures { λ _. ⌜ ((x : ℕ) → Agree (layout .exponents) (from (now (work .entry)) p) (monomial (layout .width) x)
-        → Filled (now (work .entry)) (now (work .exit)) a (layout .unknowns + 1) (equation layout (now (basis .entry)) x v)) ⌝ }
+        → Overwritten (now (work .entry)) (now (work .exit)) a (layout .unknowns + 1) (equation layout (now (basis .entry)) x v)) ⌝ }
 {
     let width = layout.width;
     let count = layout.exponents;

@@ -4,8 +4,7 @@ ghost use Prim.Native.Nat.{_+_, _≤_};
 ghost use lib.ListN.{length, drop, replicate};
 ghost use Rattle.decomposition.specs.Layout.{Sizes};
 ghost use Rattle.decomposition.specs.Record.{headed};
-ghost use Rattle.decomposition.specs.Equations.{FitReady};
-ghost use Rattle.decomposition.specs.Fit.{Found, AfterTests, Fits, fitTests, HouseFits, fitReport, houseFitReport};
+ghost use Rattle.decomposition.specs.Fit.{fitTests, FitReady, fitEnd, houseCall, Found, AfterTests, fitReport, houseFitReport};
 use crate::equations::equations;
 use crate::equations::powers;
 use crate::layouts::Layout;
@@ -49,9 +48,11 @@ fn write_head(width: u32, basis: &[u8], out: &mut [u8])
 // Finds the decomposition, where all tests are passed.
 fn find(layout: Layout, table: &[u8], basis: &[u8], work: &mut [u8], out: &mut [u8]) -> FitAnswer
     requires { ⌜ Sizes layout ⌝ }
-    requires { ⌜ FitReady layout (now table) (now basis) (now work) (now out) ⌝ }
+    requires { ⌜ FitReady layout (record { table = now table; basis = now basis; work = now work; out = now out }) ⌝ }
     ensures { λ r. ⌜ now (work .exit) ≡ replicate (length (now (work .entry))) 0 ⌝ }
-    ensures { λ r. ⌜ Found layout (now (table .entry)) (now (basis .entry)) (now (out .entry)) (now (out .exit)) (fitReport r) ⌝ }
+    ensures { λ r. ⌜ Found layout
+        (record { table = now (table .entry); basis = now (basis .entry); work = now (work .entry); out = now (out .entry) })
+        (now (out .exit)) (fitReport r) ⌝ }
 {
     let width = layout.width;
     let start = layout.start;
@@ -116,8 +117,9 @@ fn fit_tests(layout: Layout, table: &[u8], basis: &[u8], work: usize, out: usize
 // Fit once the width is known.
 fn fit_at(layout: Layout, table: &[u8], basis: &[u8], work: &mut [u8], out: &mut [u8]) -> FitAnswer
     requires { ⌜ Sizes layout ⌝ }
-    ensures { λ r. ⌜ AfterTests layout (now (table .entry)) (now (basis .entry)) (now (work .entry)) (now (out .entry))
-        (now (work .exit)) (now (out .exit)) (fitReport r)
+    ensures { λ r. ⌜ AfterTests layout
+        (record { table = now (table .entry); basis = now (basis .entry); work = now (work .entry); out = now (out .entry) })
+        (record { outcome = fitReport r; work = now (work .exit); out = now (out .exit) })
         (fitTests layout (now (table .entry)) (now (basis .entry)) (length (now (work .entry))) (length (now (out .entry)))) ⌝ }
 {
     let tested = fit_tests(layout, table, basis, work.len(), out.len());
@@ -129,8 +131,8 @@ fn fit_at(layout: Layout, table: &[u8], basis: &[u8], work: &mut [u8], out: &mut
 
 // Fit: writes the record of THE decomposition of a table over a basis.
 pub fn fit(width: u32, table: &[u8], basis: &[u8], work: &mut [u8], out: &mut [u8]) -> FitAnswer
-    ensures { λ r. ⌜ Fits width (now (table .entry)) (now (basis .entry)) (now (work .entry)) (now (out .entry)) (now (work .exit)) (now (out .exit))
-        (fitReport r) ⌝ }
+    ensures { λ r. ⌜ record { outcome = fitReport r; work = now (work .exit); out = now (out .exit) }
+        ≡ fitEnd width (record { table = now (table .entry); basis = now (basis .entry); work = now (work .entry); out = now (out .entry) }) ⌝ }
 {
     if !known(width) {
         return FitAnswer::Refused {
@@ -143,8 +145,8 @@ pub fn fit(width: u32, table: &[u8], basis: &[u8], work: &mut [u8], out: &mut [u
 
 // House fit: a fit of width 4 over the house basis.
 pub fn house_fit(table: &[u8], work: &mut [u8], out: &mut [u8]) -> HouseFitAnswer
-    ensures { λ r. ⌜ HouseFits (now (table .entry)) (now (work .entry)) (now (out .entry)) (now (work .exit)) (now (out .exit))
-        (houseFitReport r) ⌝ }
+    ensures { λ r. ⌜ record { outcome = houseFitReport r; work = now (work .exit); out = now (out .exit) }
+        ≡ fitEnd 4 (houseCall (now (table .entry)) (now (work .entry)) (now (out .entry))) ⌝ }
 {
     let basis = HOUSE_BASIS;
     let answer = fit_at(layout_of(4), table, &basis, work, out);

@@ -7,7 +7,7 @@ ghost use Rattle.field.specs.Power.{pow};
 ghost use Rattle.field.specs.Polynomial.{exponents};
 ghost use Rattle.linear.specs.Scalars.{scalars};
 ghost use Rattle.linear.specs.Row.{Agree, dot};
-ghost use Rattle.linear.specs.Buffer.{from, Filled};
+ghost use Rattle.linear.specs.Buffer.{from, Overwritten};
 ghost use Rattle.decomposition.specs.Layout.{Sizes};
 ghost use Rattle.decomposition.specs.Form.{monomial};
 ghost use Rattle.decomposition.specs.Check.{recordForm, recordProducts};
@@ -30,7 +30,7 @@ fn next_power(width: u32, x: u8, e: u8, power: u8, next: u8) -> u8
 pub fn power_row(width: u32, count: usize, out: &mut [u8], a: usize, x: u8)
     requires { ⌜ Width width ⌝ }
     requires { ⌜ (x < 2 ^ width) × (count ≤ length (exponents width)) × (a + count ≤ length (now out)) ⌝ }
-    ensures { λ _. ⌜ Filled (now (out .entry)) (now (out .exit)) a count (monomial width x) ⌝ }
+    ensures { λ _. ⌜ Overwritten (now (out .entry)) (now (out .exit)) a count (monomial width x) ⌝ }
 {
     let mut e: u8 = 0;
     let mut power: u8 = 1;

@@ -10,7 +10,7 @@ use Rattle.xor.specs.Xor.{_⊕_}
 use Rattle.field.specs.Mul.{Width, reduction, modulus, double, doubleAndAdd, mul, Ring}
 use Rattle.field.specs.Power.{pow, square, inverse, Field}
 use Rattle.field.proofs.Bilinear.{mul-zero}
-use Rattle.field.proofs.Ring.{ring-4, ring-6, mul-comm, mul-assoc, mul-one, mul-one-left, one-lt}
+use Rattle.field.proofs.Ring.{ring-4, ring-6, mul-comm, mul-one, one-lt}
 use Rattle.field.proofs.Power.{pow-suc, pow-add, pow-twice, pow-small, pow-one}
 use Rattle.field.proofs.Tests.{all, same-below}
 
@@ -85,22 +85,6 @@ module _ {n : ℕ} (field : Field n) where
   pub inverse-small : (a : ℕ) → a < 2 ^ n → inverse n a < 2 ^ n
   unfolding inverse
   inverse-small a h = pow-small (field .ring) a (2 ^ n - 2) h
-
-  pub inverse-left : (a : ℕ) → 0 < a → a < 2 ^ n → mul n (inverse n a) a ≡ 1
-  inverse-left a p h = mul-comm n (inverse n a) a (inverse-small a h) h ∙ field .inverts a p h
-
-  pub inverse-cancel : (a b : ℕ) → 0 < a → a < 2 ^ n → b < 2 ^ n → mul n (inverse n a) (mul n a b) ≡ b
-  inverse-cancel a b p ha hb =
-      sym (mul-assoc (field .ring) (inverse n a) a b (inverse-small a ha) ha hb) ∙ ap (λ (x : ℕ). mul n x b) (inverse-left a p ha)
-      ∙ mul-one-left (field .ring) b hb
-
-  -- a factor that is not 0 is cancelled
-  pub mul-cancel : (a b c : ℕ) → 0 < a → a < 2 ^ n → b < 2 ^ n → c < 2 ^ n → mul n a b ≡ mul n a c → b ≡ c
-  mul-cancel a b c p ha hb hc e = sym (inverse-cancel a b p ha hb) ∙ ap (mul n (inverse n a)) e ∙ inverse-cancel a c p ha hc
-
-  -- a product is 0 only if a factor is
-  pub no-zero : (a b : ℕ) → 0 < a → a < 2 ^ n → b < 2 ^ n → mul n a b ≡ 0 → b ≡ 0
-  no-zero a b p ha hb e = sym (inverse-cancel a b p ha hb) ∙ ap (mul n (inverse n a)) e ∙ mul-zero n (inverse n a)
 
   -- x to the power 2 ^ n is x, at 0 too
   pub fermat : (x : ℕ) → x < 2 ^ n → pow n x (2 ^ n) ≡ x

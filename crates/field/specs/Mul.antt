@@ -7,7 +7,7 @@ use Prim.Native.Nat.{ℕ, zero, suc, _+_, _*_, _/_, _%_, _^_, _<_}
 use lib.Dec.{eqb}
 use Rattle.xor.specs.Xor.{_⊕_}
 
--- the widths that the library works at
+-- the widths at which there is a field in the library
 abbrev pub Width : ℕ → Type 0
 Width n = (n ≡ 4) ⊎ (n ≡ 6)
 

@@ -27,16 +27,20 @@ use Rattle.layers.proofs.Number.{number-parts, number-lt, number-byte, 
 pub share-before : (w i j : ℕ) → i < j → w * i + w ≤ w * j
 share-before w i j h = rw (← mul-suc w i) (mul-le-mul-left w h)
 
--- no byte of one share is one of another
-share-apart : (w i j v t : ℕ) → j ≢ i → v < w → t < w → w * j + t ≢ w * i + v
-share-apart w i j v t f hv ht e = go (decLt j i)
+-- ---- a share is changed
+
+-- the other shares are as before
+pub changed-others : {w i x : ℕ} {l l′ : List ℕ} → Changed w i x l l′ → (j : ℕ) → j ≢ i → shareAt w l′ j ≡ shareAt w l j
+unfolding shareAt
+changed-others {w} {i} {x} {l} {l′} c j f = ap fromBytes (number-same (w * j) w l l′ (λ t h. go t h (decLt j i)))
   where
-    go : Dec (j < i) → ⊥
-    go (yes h) = omega (arith, share-before w j i h)
-    go (no h) = omega (arith, share-before w i j (lt-of-not j i h f))
-      where
-        lt-of-not : (j i : ℕ) → (j < i → ⊥) → j ≢ i → i < j
-        lt-of-not j i h f = omega arith
+    go : (t : ℕ) → t < w → Dec (j < i) → getD l′ (w * j + t) 0 ≡ getD l (w * j + t) 0
+    go t h (yes k) = c .earlier (w * j + t) (omega (arith, share-before w j i k))
+    go t h (no k) = let g : i < j = omega arith in c .later (w * j + t) (omega (arith, share-before w i j g))
+
+pub changed-then : {w i x y : ℕ} {l m n : List ℕ} → Changed w i x l m → Changed w i y m n → Changed w i y l n
+changed-then h k =
+    record { here = k .here; earlier = λ j f. k .earlier j f ∙ h .earlier j f; later = λ j f. k .later j f ∙ h .later j f }
 
 -- ---- one byte is changed
 
@@ -48,8 +52,8 @@ changed-set w i v l h hv k c hc =
     let e : suc v + (w - 1 - v) ≡ w = omega arith in
     record {
       here = rw e at (number-set (w * i) l h v (w - 1 - v) c hc k);
-      others = λ j f. ap fromBytes (number-same (w * j) w l (set l (w * i + v) c) (λ t ht.
-          getD-set-other l (w * i + v) (w * j + t) c 0 (share-apart w i j v t f hv ht)));
+      earlier = λ j f. getD-set-other l (w * i + v) j c 0 (λ p. omega arith);
+      later = λ j f. getD-set-other l (w * i + v) j c 0 (λ p. omega arith);
     }
 
 -- ---- nibbles
@@ -100,20 +104,9 @@ changed-nibble w i k v l h g r hv =
     ∙ ap₂ (λ (a n : ℕ). a * n) (ap (λ (a : ℕ). a ⊕ v) (sym (nibble-byte w l h i k g)))
     (sym (pow-add 2 shift (8 * (k / 2))) ∙ ap (λ (n : ℕ). 2 ^ n) place) in
     let t = changed-set w i p l h (omega arith) (omega arith) c (⊕-lt 8 (h (w * i + p)) (omega arith)) in
-    record { here = t .here ∙ ap (λ (a : ℕ). x ⊕ a) moved ∙ sym (replace-is k x v hv); others = t .others }
+    record { here = t .here ∙ ap (λ (a : ℕ). x ⊕ a) moved ∙ sym (replace-is k x v hv); earlier = t .earlier; later = t .later }
 
 -- ---- several bytes are written
-
--- what is written inside share i leaves the others
-put-outside : (w i j at n : ℕ) (l bs : List ℕ) → j ≢ i → w * i ≤ at → at + n ≤ w * i + w → at + n ≤ length l → n ≤ length bs
-    → shareAt w (paste l at bs n) j ≡ shareAt w l j
-unfolding shareAt
-put-outside w i j at n l bs f from to hl hb =
-    ap fromBytes (number-same (w * j) w l (paste l at bs n) (λ t ht. go t ht (decLt j i)))
-  where
-    go : (t : ℕ) → t < w → Dec (j < i) → getD (paste l at bs n) (w * j + t) 0 ≡ getD l (w * j + t) 0
-    go t ht (yes h) = paste-before l at bs n hl hb (w * j + t) (omega (arith, share-before w j i h))
-    go t ht (no h) = let g : i < j = omega arith in paste-after l at bs n hl hb (w * j + t) (omega (arith, share-before w i j g))
 
 -- a whole share
 pub changed-put : (w i x : ℕ) (l : List ℕ) → w * i + w ≤ length l → x < 2 ^ (8 * w) → Changed w i x l (paste l (w * i) (toBytes w x) w)
@@ -122,7 +115,8 @@ changed-put w i x l h hx =
     let n = length-to-bytes w x in
     record {
       here = number-put l (w * i) w x h hx;
-      others = λ j f. put-outside w i j (w * i) w l (toBytes w x) f (omega arith) (omega arith) h (omega arith);
+      earlier = paste-before l (w * i) (toBytes w x) w h (omega arith);
+      later = paste-after l (w * i) (toBytes w x) w h (omega arith);
     }
 
 -- a share as its first v bytes and the n bytes after them
@@ -146,9 +140,12 @@ changed-parts v n i t u l h ht hu =
     let second : fromBytes (bytesAt (at + v) n m′) ≡ u = number-put m (at + v) n u (omega arith) hu in
     record {
       here = share-parts v n i m′ ∙ ap₂ (λ (a b : ℕ). a * 2 ^ (8 * n) + b) first second;
-      others = λ j f.
-          put-outside (v + n) i j (at + v) n m (toBytes n u) f (omega arith) (omega arith) (omega arith) (omega arith)
-          ∙ put-outside (v + n) i j at v l (toBytes v t) f (omega arith) (omega arith) (omega arith) (omega arith);
+      earlier = λ j f.
+          paste-before m (at + v) (toBytes n u) n (omega arith) (omega arith) j (omega arith)
+          ∙ paste-before l at (toBytes v t) v (omega arith) (omega arith) j f;
+      later = λ j f.
+          paste-after m (at + v) (toBytes n u) n (omega arith) (omega arith) j (omega arith)
+          ∙ paste-after l at (toBytes v t) v (omega arith) (omega arith) j (omega arith);
     }
 
 -- ---- the key: its first 64 bits and the 16 after them
@@ -176,9 +173,6 @@ rotated-lt t u ht hu =
     omega arith
 
 -- ---- the round number
-
-pub changed-then : {w i x y : ℕ} {l m n : List ℕ} → Changed w i x l m → Changed w i y m n → Changed w i y l n
-changed-then h k = record { here = k .here; others = λ j f. k .others j f ∙ h .others j f }
 
 -- r at bits 19 to 15: its lowest bit in one byte, the others in the next
 number-bits : (r : ℕ) → r < 32 → r % 2 * 128 * 2 ^ 8 ⊕ r / 2 * 2 ^ 16 ≡ r * 2 ^ 15
@@ -212,5 +206,6 @@ changed-number r l h hr n =
           (ap (λ (a : ℕ). (a ⊕ (d ⊕ r / 2)) * 2 ^ 16) same ∙ ap (λ (a : ℕ). a * 2 ^ 16) (⊕-cancel d (r / 2)))
           ∙ ⊕-assoc (shareAt 10 l 0) (r % 2 * 128 * 2 ^ 8) (r / 2 * 2 ^ 16)
           ∙ ap (λ (a : ℕ). shareAt 10 l 0 ⊕ a) (number-bits r hr);
-      others = both .others;
+      earlier = both .earlier;
+      later = both .later;
     }

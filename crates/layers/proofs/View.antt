@@ -18,8 +18,10 @@ use Rattle.present.specs.Bytes.{fromBytes}
 use Rattle.present.specs.Linear.{Linear, LinearPair}
 use Rattle.present.specs.Masked.{shareWise, alone, held}
 use Rattle.present.proofs.Sharing.{share-map, length-share-wise, share-share-wise, linear-zero, sum-linear, share-held, length-held}
-use Rattle.layers.specs.State.{shareAt, sharesOf, sharing, Changed}
+use Rattle.layers.specs.State.{shareAt, sharesOf, sharing, Changed, ZeroPast, KeptPast}
 use Rattle.layers.proofs.Number.{number-same, paste-there, paste-after}
+use Rattle.layers.proofs.State.{changed-others}
+use Rattle.layers.proofs.Past.{kept-same, kept-then, changed-kept}
 
 -- ---- shares given by a function, held in nine places
 
@@ -64,25 +66,31 @@ module _ (s : ℕ) (nine : s ≤ 9) where
 
 -- ---- a loop over the shares
 
--- the shares before number i are those of f, the others are still those of l₀
-pub record Turned (w : ℕ) (f : ℕ → ℕ) (i : ℕ) (l₀ l : List ℕ) : Type 0 where
+-- the shares before number i are those of f, the others and the bytes past all s shares are still those of l₀
+pub record Turned (w s : ℕ) (f : ℕ → ℕ) (i : ℕ) (l₀ l : List ℕ) : Type 0 where
   pub passed : (j : ℕ) → j < i → shareAt w l j ≡ f j
   pub ahead : (j : ℕ) → i ≤ j → shareAt w l j ≡ shareAt w l₀ j
+  pub past : KeptPast w s l₀ l
 
-pub turned-none : {w : ℕ} {f : ℕ → ℕ} {l : List ℕ} → Turned w f 0 l l
-turned-none = record { passed = λ j h. absurd (omega arith); ahead = λ j h. refl }
+pub turned-none : {w s : ℕ} {f : ℕ → ℕ} {l : List ℕ} → Turned w s f 0 l l
+turned-none = record { passed = λ j h. absurd (omega arith); ahead = λ j h. refl; past = kept-same }
 
-pub turned-more : {w i x : ℕ} {f : ℕ → ℕ} {l₀ l l′ : List ℕ} → Turned w f i l₀ l → Changed w i x l l′ → x ≡ f i → Turned w f (i + 1) l₀ l′
-turned-more {w} {i} {x} {f} {l₀} {l} {l′} h c e =
-    record { passed = λ j k. go j k (ℕ-discrete j i); ahead = λ j k. c .others j (λ p. omega arith) ∙ h .ahead j (omega arith) }
+pub turned-more : {w s i x : ℕ} {f : ℕ → ℕ} {l₀ l l′ : List ℕ} → Turned w s f i l₀ l → i < s → Changed w i x l l′ → x ≡ f i
+    → Turned w s f (i + 1) l₀ l′
+turned-more {w} {s} {i} {x} {f} {l₀} {l} {l′} h b c e =
+    record {
+      passed = λ j k. go j k (ℕ-discrete j i);
+      ahead = λ j k. changed-others c j (λ p. omega arith) ∙ h .ahead j (omega arith);
+      past = kept-then (h .past) (changed-kept b c);
+    }
   where
     go : (j : ℕ) → j < i + 1 → Dec (j ≡ i) → shareAt w l′ j ≡ f j
     go j k (yes p) = rw p (c .here ∙ e)
-    go j k (no p) = c .others j p ∙ h .passed j (omega arith)
+    go j k (no p) = changed-others c j p ∙ h .passed j (omega arith)
 
-pub turned-all : {w i s : ℕ} {f : ℕ → ℕ} {l₀ l : List ℕ} → Turned w f i l₀ l → s ≤ i → sharing w s l ≡ held (tabulate s f)
+pub turned-all : {w s i : ℕ} {f : ℕ → ℕ} {l₀ l : List ℕ} → Turned w s f i l₀ l → s ≤ i → sharing w s l ≡ held (tabulate s f)
 unfolding sharing sharesOf
-turned-all {w} {i} {s} {f} {l₀} {l} h k = ap held (tabulate-same s (shareAt w l) f (λ j g. h .passed j (omega arith)))
+turned-all {w} {s} {i} {f} {l₀} {l} h k = ap held (tabulate-same s (shareAt w l) f (λ j g. h .passed j (omega arith)))
 
 -- ---- share 0 alone
 
@@ -101,7 +109,8 @@ changed-alone {w} {l} {l′} s c some nine h =
 
     first : (i : ℕ) → i < s → share (shareWise _⊕_ a (alone c)) i ≡ shareAt w l′ i
     first zero k = at 0 ∙ ap (λ (x : ℕ). x ⊕ c) (share-given s nine (shareAt w l) 0 k) ∙ sym (h .here)
-    first (suc i) k = at (suc i) ∙ ⊕-zero (share a (suc i)) ∙ share-given s nine (shareAt w l) (suc i) k ∙ sym (h .others (suc i) (λ e. omega arith))
+    first (suc i) k =
+        at (suc i) ∙ ⊕-zero (share a (suc i)) ∙ share-given s nine (shareAt w l) (suc i) k ∙ sym (changed-others h (suc i) (λ e. omega arith))
 
     past : (i : ℕ) → s ≤ i → share (shareWise _⊕_ a (alone c)) i ≡ 0
     past zero k = absurd (omega arith)
@@ -120,8 +129,8 @@ same-bytes w s l m h =
     ap held (tabulate-same s (shareAt w l) (shareAt w m) (λ i k. ap fromBytes (number-same (w * i) w m l (λ j g. h (w * i + j)))))
 
 -- what is copied to the start of zeros
-pub sharing-loaded : (w s n : ℕ) (l : List ℕ) → length l ≤ n → sharing w s (paste (replicate n 0) 0 l (length l)) ≡ sharing w s l
-sharing-loaded w s n l k = same-bytes w s (paste zeros 0 l (length l)) l (λ p. go p (decLt p (length l)))
+loaded-bytes : (n : ℕ) (l : List ℕ) → length l ≤ n → (p : ℕ) → getD (paste (replicate n 0) 0 l (length l)) p 0 ≡ getD l p 0
+loaded-bytes n l k p = go p (decLt p (length l))
   where
     zeros : List ℕ
     zeros = replicate n 0
@@ -134,3 +143,9 @@ sharing-loaded w s n l k = same-bytes w s (paste zeros 0 l (length l)) l (λ p. 
         ap (λ (j : ℕ). getD (paste zeros 0 l (length l)) j 0) (sym (zero-add p)) ∙ paste-there zeros 0 l (length l) room (omega arith) p h
     go p (no h) =
         paste-after zeros 0 l (length l) room (omega arith) p (omega arith) ∙ share-zeros n p ∙ sym (List·getD-eq-default l 0 {n = p} (omega arith))
+
+pub sharing-loaded : (w s n : ℕ) (l : List ℕ) → length l ≤ n → sharing w s (paste (replicate n 0) 0 l (length l)) ≡ sharing w s l
+sharing-loaded w s n l k = same-bytes w s (paste (replicate n 0) 0 l (length l)) l (loaded-bytes n l k)
+
+pub zero-loaded : (w s n : ℕ) (l : List ℕ) → length l ≤ n → length l ≤ w * s → ZeroPast w s (paste (replicate n 0) 0 l (length l))
+zero-loaded w s n l k h = record { zeros = λ j f. loaded-bytes n l k j ∙ List·getD-eq-default l 0 {n = j} (omega arith) }

@@ -1,4 +1,4 @@
-// All shares of a block or of a key: the parts of a round on them, and nibbles as sharings of their own.
+// All shares of a block or of a key: the parts of a round on them, and nibbles as sharings of their own. Bytes past the shares in use are kept.
 ghost use mathlib.Core.Path.{_≡_};
 ghost use mathlib.Core.List.{map};
 ghost use Prim.Native.Nat.{_*_, _<_, _≤_};
@@ -9,7 +9,7 @@ ghost use Rattle.xor.specs.Sum.{join};
 ghost use Rattle.steps.specs.Sharing.{Sharing};
 ghost use Rattle.present.specs.Present as present;
 ghost use Rattle.present.specs.Masked.{shareWise, alone};
-ghost use Rattle.layers.specs.State.{bytesOf, sharesOf, sharing};
+ghost use Rattle.layers.specs.State.{bytesOf, sharesOf, sharing, KeptPast};
 use crate::share::add_number;
 use crate::share::add_share;
 use crate::share::nibble;
@@ -42,6 +42,7 @@ pub fn store(s: usize, block: &[u8], out: &mut [u8])
 pub fn permute_shares(s: usize, block: &mut [u8; 72])
     requires { ⌜ s ≤ 9 ⌝ }
     ensures { λ _. ⌜ sharing 8 s (now (block .exit)) ≡ map present.permute (sharing 8 s (now (block .entry))) ⌝ }
+    ensures { λ _. ⌜ KeptPast 8 s (now (block .entry)) (now (block .exit)) ⌝ }
 {
     let mut i: usize = 0;
     while i < s {
@@ -55,6 +56,7 @@ pub fn add_round_keys(s: usize, key: &[u8; 90], block: &mut [u8; 72])
     requires { ⌜ s ≤ 9 ⌝ }
     ensures { λ _. ⌜ sharing 8 s (now (block .exit))
         ≡ shareWise _⊕_ (map (present.roundKey present.size80) (sharing 10 s (now (key .entry)))) (sharing 8 s (now (block .entry))) ⌝ }
+    ensures { λ _. ⌜ KeptPast 8 s (now (block .entry)) (now (block .exit)) ⌝ }
 {
     let mut i: usize = 0;
     while i < s {
@@ -67,6 +69,7 @@ pub fn add_round_keys(s: usize, key: &[u8; 90], block: &mut [u8; 72])
 pub fn rotate_keys(s: usize, key: &mut [u8; 90])
     requires { ⌜ s ≤ 9 ⌝ }
     ensures { λ _. ⌜ sharing 10 s (now (key .exit)) ≡ map (present.rotate present.size80) (sharing 10 s (now (key .entry))) ⌝ }
+    ensures { λ _. ⌜ KeptPast 10 s (now (key .entry)) (now (key .exit)) ⌝ }
 {
     let mut i: usize = 0;
     while i < s {
@@ -80,6 +83,7 @@ pub fn add_round_number(s: usize, r: u8, key: &mut [u8; 90])
     requires { ⌜ (0 < s) × (s ≤ 9) × (r < 32) ⌝ }
     ensures { λ _. ⌜ sharing 10 s (now (key .exit))
         ≡ shareWise _⊕_ (sharing 10 s (now (key .entry))) (alone (present.roundNumber present.size80 r)) ⌝ }
+    ensures { λ _. ⌜ KeptPast 10 s (now (key .entry)) (now (key .exit)) ⌝ }
 {
     add_number(r, key);
 }
@@ -103,6 +107,7 @@ pub fn replace_column(w: usize, s: usize, k: usize, v: &[u8; 9], l: &mut [u8])
     requires { ⌜ (s ≤ 9) × (k < 2 * w) × (w * s ≤ length (now l)) ⌝ }
     requires { ⌜ (length (now v) ≡ 9) × Sharing 4 s (join (now v)) (now v) ⌝ }
     ensures { λ _. ⌜ sharing w s (now (l .exit)) ≡ shareWise (present.replace k) (sharing w s (now (l .entry))) (now (v .entry)) ⌝ }
+    ensures { λ _. ⌜ KeptPast w s (now (l .entry)) (now (l .exit)) ⌝ }
 {
     let mut i: usize = 0;
     while i < s {

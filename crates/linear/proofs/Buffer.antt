@@ -8,27 +8,27 @@ use native.Mathlib.Nat.{le-refl, suc-mul, mul-le-mul-right}
 use native.Mathlib.Omega.{arith}
 use lib.ListN.{length, getD, set}
 use lib.Seq.{getD-set-same, getD-set-other}
-use Rattle.linear.specs.Buffer.{Filled, cell}
+use Rattle.linear.specs.Buffer.{Overwritten, cell}
 use Rattle.linear.specs.Row.{Agree}
 
-pub filled-none : (l : List ℕ) (a : ℕ) (v : ℕ → ℕ) → Filled l l a 0 v
-filled-none l a v = record { done = λ j h. absurd (omega arith); low = λ j h. refl; high = λ j h. refl }
+pub overwritten-none : (l : List ℕ) (a : ℕ) (v : ℕ → ℕ) → Overwritten l l a 0 v
+overwritten-none l a v = record { new = λ j h. absurd (omega arith); low = λ j h. refl; high = λ j h. refl }
 
 -- one more byte is written
-pub filled-more : {l₀ l : List ℕ} {a k : ℕ} {v : ℕ → ℕ} → Filled l₀ l a k v → a + k < length l → (x : ℕ) → x ≡ v k
-    → Filled l₀ (set l (a + k) x) a (k + 1) v
-filled-more {l₀} {l} {a} {k} {v} u b x e = record {
-  done = λ j h. elim (ℕ-discrete j k) [
+pub overwritten-more : {l₀ l : List ℕ} {a k : ℕ} {v : ℕ → ℕ} → Overwritten l₀ l a k v → a + k < length l → (x : ℕ) → x ≡ v k
+    → Overwritten l₀ (set l (a + k) x) a (k + 1) v
+overwritten-more {l₀} {l} {a} {k} {v} u b x e = record {
+  new = λ j h. elim (ℕ-discrete j k) [
     | yes q ↦ rw q (getD-set-same l (a + k) x 0 b ∙ e)
-    | no n ↦ getD-set-other l (a + k) (a + j) x 0 (λ z. n (omega arith)) ∙ u .done j (omega arith)
+    | no n ↦ getD-set-other l (a + k) (a + j) x 0 (λ z. n (omega arith)) ∙ u .new j (omega arith)
   ];
   low = λ j h. getD-set-other l (a + k) j x 0 (λ z. omega arith) ∙ u .low j h;
   high = λ j h. getD-set-other l (a + k) j x 0 (λ z. omega arith) ∙ u .high j (omega arith);
 }
 
 -- the same values by another name
-pub filled-values : {l₀ l : List ℕ} {a k : ℕ} {v v' : ℕ → ℕ} → Filled l₀ l a k v → ((j : ℕ) → j < k → v j ≡ v' j) → Filled l₀ l a k v'
-filled-values u h = record { done = λ j b. u .done j b ∙ h j b; low = u .low; high = u .high }
+pub overwritten-values : {l₀ l : List ℕ} {a k : ℕ} {v v' : ℕ → ℕ} → Overwritten l₀ l a k v → ((j : ℕ) → j < k → v j ≡ v' j) → Overwritten l₀ l a k v'
+overwritten-values u h = record { new = λ j b. u .new j b ∙ h j b; low = u .low; high = u .high }
 
 -- one more byte is copied
 pub agree-set : (l : List ℕ) {k : ℕ} {v : ℕ → ℕ} → Agree k (λ j. getD l j 0) v → k < length l → (x : ℕ) → x ≡ v k
@@ -46,9 +46,6 @@ agree-set l {k} a b x e = record {
 pub row-room : {i m L : ℕ} (w : ℕ) → i < m → m * w ≤ L → i * w + w ≤ L
 row-room {i} w h r = omega (arith, mul-le-mul-right w h, suc-mul i w)
 
-pub cell-room : {i m L w k : ℕ} → i < m → k < w → m * w ≤ L → i * w + k < L
-cell-room {w = w} h g r = omega (arith, row-room w h r)
-
 -- two rows are apart
 pub rows-apart : (w i j : ℕ) → (i ≡ j → ⊥) → (i * w + w ≤ j * w) ⊎ (j * w + w ≤ i * w)
 rows-apart w i j n = elim (decLt i j) [
@@ -57,9 +54,9 @@ rows-apart w i j n = elim (decLt i j) [
 ]
 
 -- a row that is written leaves the others as they were
-pub filled-other : {l₀ l : List ℕ} {v : ℕ → ℕ} (w i j : ℕ) → Filled l₀ l (i * w) w v → (j ≡ i → ⊥) → Agree w (cell w l j) (cell w l₀ j)
-filled-other w i j u n =
+pub overwritten-other : {l₀ l : List ℕ} {v : ℕ → ℕ} (w i j : ℕ) → Overwritten l₀ l (i * w) w v → (j ≡ i → ⊥) → Agree w (cell w l j) (cell w l₀ j)
+overwritten-other w i j u n =
     record { at = λ k h. ⊎-elim (λ g. u .low (j * w + k) (omega arith)) (λ g. u .high (j * w + k) (omega arith)) (rows-apart w j i n) }
 
-pub filled-row : {l₀ l : List ℕ} {v : ℕ → ℕ} (w i : ℕ) → Filled l₀ l (i * w) w v → Agree w (cell w l i) v
-filled-row w i u = record { at = u .done }
+pub overwritten-row : {l₀ l : List ℕ} {v : ℕ → ℕ} (w i : ℕ) → Overwritten l₀ l (i * w) w v → Agree w (cell w l i) v
+overwritten-row w i u = record { at = u .new }

@@ -5,12 +5,12 @@ use native.Mathlib.Decide.{ℕ-discrete}
 use native.Mathlib.Omega.{arith}
 use Rattle.linear.specs.Elimination.{Eliminated}
 use Rattle.linear.specs.Row.{Agree}
-use Rattle.linear.specs.Scalars.{Scalars, Laws}
+use Rattle.linear.specs.Scalars.{Scalars, ScalarLaws}
 use Rattle.linear.specs.System.{Elements}
 use Rattle.linear.proofs.Reduced.{equivalent-trans, reduced-agree}
 use Rattle.linear.proofs.RowOperations.{MultiplesAdded, Scaled, added-back, added-elements, added-keeps, scaled-back, scaled-elements, scaled-keeps}
 
-module _ {S : Scalars} (F : Laws S) where
+module _ {S : Scalars} (F : ScalarLaws S) where
   module _ (m w c r p : ℕ) (M₀ M N : ℕ → ℕ → ℕ) (cw : c ≤ w) (rp : r ≤ p) (pm : p < m) (h : Eliminated S m w M₀ M c r) where
     el : Elements S m w M
     el = h .elements

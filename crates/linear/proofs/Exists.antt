@@ -10,7 +10,7 @@ use lib.Dec.{eqb}
 use borrow.Author.Tests.{eq-eqb, ne-eqb}
 use Rattle.linear.specs.Elimination.{Cleared, Eliminated, LeadingAt, Pivot, PivotAdded, Reduced}
 use Rattle.linear.specs.Row.{Agree, plus, times}
-use Rattle.linear.specs.Scalars.{Laws, Scalars}
+use Rattle.linear.specs.Scalars.{ScalarLaws, Scalars}
 use Rattle.linear.specs.System.{Canonical, Elements, Inconsistent}
 use Rattle.linear.proofs.ReadOff.{find-row, leading-apart, read-off-canonical, read-off-none}
 use Rattle.linear.proofs.Reduced.{equivalent-refl, reduced-start}
@@ -45,7 +45,7 @@ replaced-other r w row M i n = record { at = λ j l. rw (ne-eqb i r n) refl }
 agree-refl : (w : ℕ) (r : ℕ → ℕ) → Agree w r r
 agree-refl w r = record { at = λ j l. refl }
 
-module _ {S : Scalars} (F : Laws S) (m w : ℕ) where
+module _ {S : Scalars} (F : ScalarLaws S) (m w : ℕ) where
   pivot-added : (r p : ℕ) (M : ℕ → ℕ → ℕ) → (N : ℕ → ℕ → ℕ) × PivotAdded S m w r p M N
   pivot-added r p M = elim (ℕ-discrete p r) [
     | yes e ↦ (M, record { row = λ n. absurd (n e); itself = λ _. agree-refl w (M r); others = λ i l n. agree-refl w (M i) })
@@ -65,7 +65,7 @@ module _ {S : Scalars} (F : Laws S) (m w : ℕ) where
         replaced r (M r) all,
         record {
           kept = replaced-here r w (M r) all;
-          done = λ i l n. replaced-other r w (M r) all i n;
+          cleared = λ i l n. replaced-other r w (M r) all i n;
           rest = λ i g l. absurd (omega arith);
         },
       )
@@ -112,7 +112,7 @@ module _ {m c r : ℕ} {M : ℕ → ℕ → ℕ} (h : Reduced m M c r) (u k : �
   unknown = unknown-from (find-row h k r (le-refl r))
 
 -- linear equations have a canonical solution, or none at all
-pub canonical-or-inconsistent : {S : Scalars} → Laws S → (m u : ℕ) (M : ℕ → ℕ → ℕ) → Elements S m (suc u) M
+pub canonical-or-inconsistent : {S : Scalars} → ScalarLaws S → (m u : ℕ) (M : ℕ → ℕ → ℕ) → Elements S m (suc u) M
     → ((p : ℕ → ℕ) × Canonical S m M u p) ⊎ Inconsistent S m M u
 unfolding Unknown
 canonical-or-inconsistent {S} F m u M el =

@@ -7,8 +7,8 @@ use native.Mathlib.Decide.{ℕ-discrete, decLt}
 use native.Mathlib.Nat.{le-refl}
 use native.Mathlib.Omega.{arith}
 use Rattle.linear.specs.Elimination.{LeadingOne, Reduced, Eliminated, FirstNonzero, LeadingAt, ReadOff}
-use Rattle.linear.specs.Row.{Small, dot}
-use Rattle.linear.specs.Scalars.{Scalars, Laws}
+use Rattle.linear.specs.Row.{RowElements, dot}
+use Rattle.linear.specs.Scalars.{Scalars, ScalarLaws}
 use Rattle.linear.specs.System.{Combination, Free, Canonical, Inconsistent}
 use Rattle.linear.proofs.Row.{zero-below, zero-mul, one-mul, dot-none, dot-single}
 
@@ -75,7 +75,7 @@ read-off-more {r = r} {n = n} {i = i} {M = M} {p = p} h ir rd k q f here others 
     none : (l : ℕ) → l < n → ((j : ℕ) → j < suc i → LeadingAt M j l → ⊥) → q l ≡ 0
     none l g z = others l (λ e. z i (le-refl (suc i)) (rw (← e) at f)) ∙ rd .none l g (λ j b. z j (omega arith))
 
-module _ {S : Scalars} (F : Laws S) (m n w r : ℕ) (nw : n < w) (M₀ M : ℕ → ℕ → ℕ) (h : Eliminated S m w M₀ M n r) where
+module _ {S : Scalars} (F : ScalarLaws S) (m n w r : ℕ) (nw : n < w) (M₀ M : ℕ → ℕ → ℕ) (h : Eliminated S m w M₀ M n r) where
   -- where a row from the rank on has a right side that is not 0, there is no solution
   pub read-off-none : (i : ℕ) → r ≤ i → i < m → (M i n ≡ 0 → ⊥) → Inconsistent S m M₀ n
   read-off-none i g l nz = record {
@@ -86,7 +86,7 @@ module _ {S : Scalars} (F : Laws S) (m n w r : ℕ) (nw : n < w) (M₀ M : ℕ �
   }
 
   module _ (zeros : (i : ℕ) → r ≤ i → i < m → M i n ≡ 0) (p : ℕ → ℕ) (rd : ReadOff M n r p) where
-    small : Small S n p
+    small : RowElements S n p
     small = record {
       at = λ j l. ⊎-elim
           (λ x. let im : x .0 < m = omega (arith, x .1, h .reduced .rank) in rw (rd .lead (x .0) j (x .1) l (x .2))

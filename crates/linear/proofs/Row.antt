@@ -4,8 +4,8 @@ use Prim.Native.Nat.{ℕ, zero, suc, _≤_, _<_, _+_}
 use native.Mathlib.Decide.{ℕ-discrete}
 use native.Mathlib.Nat.{le-refl, add-suc, add-zero}
 use native.Mathlib.Omega.{arith}
-use Rattle.linear.specs.Row.{Agree, Small, dot, plus, times}
-use Rattle.linear.specs.Scalars.{Scalars, Laws}
+use Rattle.linear.specs.Row.{Agree, RowElements, dot, plus, times}
+use Rattle.linear.specs.Scalars.{Scalars, ScalarLaws}
 
 pub agree-sym : {k : ℕ} {r s : ℕ → ℕ} → Agree k r s → Agree k s r
 agree-sym h = record { at = λ j l. sym (h .at j l) }
@@ -16,7 +16,7 @@ agree-less h = record { at = λ j l. h .at j (omega arith) }
 pub agree-shorter : {k w : ℕ} {r s : ℕ → ℕ} → k ≤ w → Agree w r s → Agree k r s
 agree-shorter e h = record { at = λ j l. h .at j (omega arith) }
 
-pub small-shorter : {S : Scalars} {k w : ℕ} {r : ℕ → ℕ} → k ≤ w → Small S w r → Small S k r
+pub small-shorter : {S : Scalars} {k w : ℕ} {r : ℕ → ℕ} → k ≤ w → RowElements S w r → RowElements S k r
 small-shorter e h = record { at = λ j l. h .at j (omega arith) }
 
 -- the product looks only at the places below its length
@@ -26,12 +26,12 @@ dot-agree S zero h g = refl
 dot-agree S (suc k) h g =
     ap₂ (S .add) (dot-agree S k (agree-less h) (agree-less g)) (ap₂ (S .mul) (h .at k (le-refl (suc k))) (g .at k (le-refl (suc k))))
 
-module _ {S : Scalars} (F : Laws S) where
+module _ {S : Scalars} (F : ScalarLaws S) where
   -- what the places below k + 1 have, those below k have
-  small-less : {k : ℕ} {r : ℕ → ℕ} → Small S (suc k) r → Small S k r
+  small-less : {k : ℕ} {r : ℕ → ℕ} → RowElements S (suc k) r → RowElements S k r
   small-less h = record { at = λ j l. h .at j (omega arith) }
 
-  small-last : {k : ℕ} {r : ℕ → ℕ} → Small S (suc k) r → r k < S .size
+  small-last : {k : ℕ} {r : ℕ → ℕ} → RowElements S (suc k) r → r k < S .size
   small-last {k} h = h .at k (le-refl (suc k))
 
   pub zero-below : 0 < S .size
@@ -46,10 +46,10 @@ module _ {S : Scalars} (F : Laws S) where
   pub one-mul : {a : ℕ} → a < S .size → S .mul 1 a ≡ a
   one-mul h = F .mul-comm (F .one-below) h ∙ F .mul-one h
 
-  pub plus-small : {k : ℕ} {r s : ℕ → ℕ} → Small S k r → Small S k s → Small S k (plus S r s)
+  pub plus-small : {k : ℕ} {r s : ℕ → ℕ} → RowElements S k r → RowElements S k s → RowElements S k (plus S r s)
   plus-small h g = record { at = λ j l. F .add-below (h .at j l) (g .at j l) }
 
-  pub times-small : {k f : ℕ} {r : ℕ → ℕ} → f < S .size → Small S k r → Small S k (times S f r)
+  pub times-small : {k f : ℕ} {r : ℕ → ℕ} → f < S .size → RowElements S k r → RowElements S k (times S f r)
   times-small b h = record { at = λ j l. F .mul-below b (h .at j l) }
 
   -- (a + b) + (c + d) = (a + c) + (b + d)
@@ -63,18 +63,18 @@ module _ {S : Scalars} (F : Laws S) where
   pub twice : (a b : ℕ) → S .add (S .add a b) b ≡ a
   twice a b = F .add-assoc a b b ∙ ap (S .add a) (F .add-self b) ∙ F .add-zero a
 
-  pub dot-below : (k : ℕ) {r d : ℕ → ℕ} → Small S k r → Small S k d → dot S k r d < S .size
+  pub dot-below : (k : ℕ) {r d : ℕ → ℕ} → RowElements S k r → RowElements S k d → dot S k r d < S .size
   unfolding dot
   dot-below zero hr hd = zero-below
   dot-below (suc k) hr hd = F .add-below (dot-below k (small-less hr) (small-less hd)) (F .mul-below (small-last hr) (small-last hd))
 
-  pub dot-comm : (k : ℕ) {r d : ℕ → ℕ} → Small S k r → Small S k d → dot S k r d ≡ dot S k d r
+  pub dot-comm : (k : ℕ) {r d : ℕ → ℕ} → RowElements S k r → RowElements S k d → dot S k r d ≡ dot S k d r
   unfolding dot
   dot-comm zero hr hd = refl
   dot-comm (suc k) hr hd = ap₂ (S .add) (dot-comm k (small-less hr) (small-less hd)) (F .mul-comm (small-last hr) (small-last hd))
 
   -- the product is additive in the column
-  pub dot-plus : (k : ℕ) {r d e : ℕ → ℕ} → Small S k r → Small S k d → Small S k e → dot S k r (plus S d e) ≡ S .add (dot S k r d) (dot S k r e)
+  pub dot-plus : (k : ℕ) {r d e : ℕ → ℕ} → RowElements S k r → RowElements S k d → RowElements S k e → dot S k r (plus S d e) ≡ S .add (dot S k r d) (dot S k r e)
   unfolding dot
   dot-plus zero hr hd he = sym (F .add-zero 0)
   dot-plus (suc k) {r} {d} {e} hr hd he =
@@ -86,7 +86,7 @@ module _ {S : Scalars} (F : Laws S) where
   mul-swap {a} {b} {f} ha hb hf = sym (F .mul-assoc ha hf hb) ∙ ap (λ (x : ℕ). S .mul x b) (F .mul-comm ha hf) ∙ F .mul-assoc hf ha hb
 
   -- a factor of the column is a factor of the product
-  pub dot-times : (k : ℕ) {f : ℕ} {r d : ℕ → ℕ} → f < S .size → Small S k r → Small S k d → dot S k r (times S f d) ≡ S .mul f (dot S k r d)
+  pub dot-times : (k : ℕ) {f : ℕ} {r d : ℕ → ℕ} → f < S .size → RowElements S k r → RowElements S k d → dot S k r (times S f d) ≡ S .mul f (dot S k r d)
   unfolding dot
   dot-times zero hf hr hd = sym (F .mul-zero hf)
   dot-times (suc k) {f} {r} {d} hf hr hd =
@@ -94,11 +94,11 @@ module _ {S : Scalars} (F : Laws S) where
       ∙ sym (F .mul-add hf (dot-below k (small-less hr) (small-less hd)) (F .mul-below (small-last hr) (small-last hd)))
 
   -- the same two laws in the row
-  pub plus-dot : (k : ℕ) {r s d : ℕ → ℕ} → Small S k r → Small S k s → Small S k d → dot S k (plus S r s) d ≡ S .add (dot S k r d) (dot S k s d)
+  pub plus-dot : (k : ℕ) {r s d : ℕ → ℕ} → RowElements S k r → RowElements S k s → RowElements S k d → dot S k (plus S r s) d ≡ S .add (dot S k r d) (dot S k s d)
   plus-dot k hr hs hd =
       dot-comm k (plus-small hr hs) hd ∙ dot-plus k hd hr hs ∙ ap₂ (S .add) (dot-comm k hd hr) (dot-comm k hd hs)
 
-  pub times-dot : (k : ℕ) {f : ℕ} {r d : ℕ → ℕ} → f < S .size → Small S k r → Small S k d → dot S k (times S f r) d ≡ S .mul f (dot S k r d)
+  pub times-dot : (k : ℕ) {f : ℕ} {r d : ℕ → ℕ} → f < S .size → RowElements S k r → RowElements S k d → dot S k (times S f r) d ≡ S .mul f (dot S k r d)
   times-dot k {f} hf hr hd = dot-comm k (times-small hf hr) hd ∙ dot-times k hf hd hr ∙ ap (S .mul f) (dot-comm k hd hr)
 
   -- a product of zeros, from the place b on, adds nothing

@@ -3,8 +3,8 @@ use mathlib.Core.Path.{_≡_, refl, sym, ap, ap₂, _∙_}
 use Prim.Native.Nat.{ℕ, _<_}
 use native.Mathlib.Decide.{ℕ-discrete}
 use native.Mathlib.Omega.{arith}
-use Rattle.linear.specs.Row.{Small, Agree, dot, times, plus}
-use Rattle.linear.specs.Scalars.{Scalars, Laws}
+use Rattle.linear.specs.Row.{RowElements, Agree, dot, times, plus}
+use Rattle.linear.specs.Scalars.{Scalars, ScalarLaws}
 use Rattle.linear.specs.System.{Elements, Combination}
 use Rattle.linear.proofs.Row.{agree-sym, agree-shorter, small-shorter, one-mul, times-small, twice, dot-agree, plus-dot, times-dot}
 
@@ -24,19 +24,19 @@ pub record Scaled (S : Scalars) (m w p f : ℕ) (M N : ℕ → ℕ → ℕ) : Ty
   pub row : Agree w (N p) (times S f (M p))
   pub others : (i : ℕ) → i < m → (i ≡ p → ⊥) → Agree w (N i) (M i)
 
-module _ {S : Scalars} (F : Laws S) where
+module _ {S : Scalars} (F : ScalarLaws S) where
   -- a sum of rows takes part in each combination in which the rows take part
-  add-row : {k w : ℕ} {t r s d : ℕ → ℕ} → k < w → Small S w t → Small S w r → Small S k d → MultipleAdded S w t r s → dot S k t d ≡ t k
+  add-row : {k w : ℕ} {t r s d : ℕ → ℕ} → k < w → RowElements S w t → RowElements S w r → RowElements S k d → MultipleAdded S w t r s → dot S k t d ≡ t k
       → dot S k r d ≡ r k → dot S k s d ≡ s k
   add-row {k} {w} {t} {r} {s} {d} l st sr sd x ht hr =
-      let st' : Small S k t = small-shorter (omega arith) st in
-      let sr' : Small S k r = small-shorter (omega arith) sr in
+      let st' : RowElements S k t = small-shorter (omega arith) st in
+      let sr' : RowElements S k r = small-shorter (omega arith) sr in
       dot-agree S k (agree-shorter (omega arith) (x .sum)) (record { at = λ j g. refl })
       ∙ plus-dot F k sr' (times-small F (x .below) st') sd
       ∙ ap₂ (S .add) hr (times-dot F k (x .below) st' sd ∙ ap (S .mul (x .factor)) ht)
       ∙ sym (x .sum .at k l)
 
-  scale-row : {k w f : ℕ} {r s d : ℕ → ℕ} → k < w → f < S .size → Small S w r → Small S k d → Agree w s (times S f r) → dot S k r d ≡ r k
+  scale-row : {k w f : ℕ} {r s d : ℕ → ℕ} → k < w → f < S .size → RowElements S w r → RowElements S k d → Agree w s (times S f r) → dot S k r d ≡ r k
       → dot S k s d ≡ s k
   scale-row {k} {w} {f} {r} {s} {d} l b sr sd x hr =
       dot-agree S k (agree-shorter (omega arith) x) (record { at = λ j g. refl })
@@ -75,7 +75,7 @@ module _ {S : Scalars} (F : Laws S) where
     pub added-elements : MultiplesAdded S m w p M N → Elements S m w N
     added-elements x = record { at = each }
       where
-        each : (i : ℕ) → i < m → Small S w (N i)
+        each : (i : ℕ) → i < m → RowElements S w (N i)
         each i g = elim (ℕ-discrete i p) [
           | yes e ↦ record { at = λ j l. rw (e, x .kept .at j l) (el .at p pm .at j l) }
           | no n ↦ let y =
@@ -109,7 +109,7 @@ module _ {S : Scalars} (F : Laws S) where
     pub scaled-elements : (f : ℕ) → f < S .size → Scaled S m w p f M N → Elements S m w N
     scaled-elements f b x = record { at = each }
       where
-        each : (i : ℕ) → i < m → Small S w (N i)
+        each : (i : ℕ) → i < m → RowElements S w (N i)
         each i g = elim (ℕ-discrete i p) [
           | yes e ↦ record { at = λ j l. rw (e, x .row .at j l) (F .mul-below b (el .at p pm .at j l)) }
           | no n ↦ record { at = λ j l. rw (x .others i g n .at j l) (el .at i g .at j l) }

@@ -7,9 +7,9 @@ use Rattle.field.specs.Power.{Field}
 use Rattle.field.proofs.Bilinear.{mul-⊕, mul-zero}
 use Rattle.field.proofs.Ring.{mul-comm, mul-assoc, mul-one, one-lt, mul-small}
 use Rattle.field.proofs.Inverses.{field-of, inverse-small}
-use Rattle.linear.specs.Scalars.{Laws, scalars}
+use Rattle.linear.specs.Scalars.{ScalarLaws, scalars}
 
-pub scalar-laws : {n : ℕ} → Field n → Laws (scalars n)
+pub scalar-laws : {n : ℕ} → Field n → ScalarLaws (scalars n)
 scalar-laws {n} f =
     let r = f .ring in
     record {
@@ -30,5 +30,5 @@ scalar-laws {n} f =
     }
 
 -- the widths that the library works at
-pub laws-of : {n : ℕ} → Width n → Laws (scalars n)
+pub laws-of : {n : ℕ} → Width n → ScalarLaws (scalars n)
 laws-of {n} w = scalar-laws (field-of n w)

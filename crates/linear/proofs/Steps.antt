@@ -5,7 +5,7 @@ use native.Mathlib.Decide.{ℕ-discrete}
 use native.Mathlib.Nat.{le-refl}
 use native.Mathlib.Omega.{arith}
 use Rattle.linear.specs.Elimination.{Eliminated, Cleared, Pivot, PivotAdded}
-use Rattle.linear.specs.Scalars.{Scalars, Laws}
+use Rattle.linear.specs.Scalars.{Scalars, ScalarLaws}
 use Rattle.linear.specs.System.{Elements}
 use Rattle.linear.proofs.Elimination.{eliminated-added, eliminated-scaled}
 use Rattle.linear.proofs.Reduced.{equivalent-trans, equivalent-refl, reduced-skip, reduced-grow}
@@ -14,7 +14,7 @@ use Rattle.linear.proofs.RowOperations.{MultiplesAdded, Scaled}
 
 pub cleared-none : (S : Scalars) (m w c r : ℕ) (M : ℕ → ℕ → ℕ) → Cleared S m w c r 0 M M
 cleared-none S m w c r M =
-    record { kept = record { at = λ j l. refl }; done = λ i l. absurd (omega arith); rest = λ i g l. record { at = λ j b. refl } }
+    record { kept = record { at = λ j l. refl }; cleared = λ i l. absurd (omega arith); rest = λ i g l. record { at = λ j b. refl } }
 
 -- a matrix that is reduced so far is on its own way
 pub eliminated-self : {S : Scalars} {m w c r : ℕ} {M N : ℕ → ℕ → ℕ} → Eliminated S m w M N c r → Eliminated S m w N N c r
@@ -24,7 +24,7 @@ pub eliminated-trans : {S : Scalars} {m w c r c' r' : ℕ} {M N O : ℕ → ℕ 
     → Eliminated S m w M O c' r'
 eliminated-trans h g = record { elements = g .elements; equivalent = equivalent-trans (h .equivalent) (g .equivalent); reduced = g .reduced }
 
-module _ {S : Scalars} (F : Laws S) where
+module _ {S : Scalars} (F : ScalarLaws S) where
   -- adding the pivot row adds a multiple of it to each other row: 1 or 0
   pivot-added-all : {m w r p : ℕ} {M N : ℕ → ℕ → ℕ} → Elements S m w M → p < m → (p ≡ r → ⊥) → PivotAdded S m w r p M N → MultiplesAdded S m w p M N
   pivot-added-all {m} {w} {r} {p} {M} {N} el pm n x = record {
@@ -44,7 +44,7 @@ module _ {S : Scalars} (F : Laws S) where
 
   cleared-added : {m w c r : ℕ} {M N : ℕ → ℕ → ℕ} → Elements S m w M → c < w → Cleared S m w c r m M N → MultiplesAdded S m w r M N
   cleared-added {M = M} el cw x =
-      record { kept = x .kept; others = λ i l n. record { factor = M i _; below = el .at i l .at _ cw; sum = x .done i l n } }
+      record { kept = x .kept; others = λ i l n. record { factor = M i _; below = el .at i l .at _ cw; sum = x .cleared i l n } }
 
   module _ (m w c r p : ℕ) (M₀ M : ℕ → ℕ → ℕ) (cw : c < w) (h : Eliminated S m w M₀ M c r) (pv : Pivot m c r p M) where
     -- there is no pivot: the column is done
@@ -120,6 +120,6 @@ module _ {S : Scalars} (F : Laws S) where
       last = eliminated-added F m w c r r M₀ M N (omega arith) (le-refl r) rm h (cleared-added (h .elements) cw y)
 
       clear : (i : ℕ) → i < m → (i ≡ r → ⊥) → N i c ≡ 0
-      clear i l n = y .done i l n .at c cw
+      clear i l n = y .cleared i l n .at c cw
           ∙ ap (S .add (M i c)) (ap (S .mul (M i c)) unit ∙ F .mul-one (h .elements .at i l .at c cw))
           ∙ F .add-self (M i c)

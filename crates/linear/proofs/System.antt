@@ -4,18 +4,18 @@ use Prim.Native.Nat.{ℕ, zero, suc, _+_, _≤_, _<_}
 use native.Mathlib.Decide.{ℕ-discrete}
 use native.Mathlib.Omega.{arith}
 use Rattle.field.specs.Polynomial.{combination}
-use Rattle.linear.specs.Row.{Small, Agree, dot, plus, times}
-use Rattle.linear.specs.Scalars.{Scalars, Laws}
+use Rattle.linear.specs.Row.{RowElements, Agree, dot, plus, times}
+use Rattle.linear.specs.Scalars.{Scalars, ScalarLaws}
 use Rattle.linear.specs.System.{Canonical, Elements, Free, Combination, Inconsistent}
 use Rattle.linear.proofs.Row.{small-shorter, zero-add, mul-swap, plus-small, times-small, twice, dot-plus, dot-times, dot-end, agree-shorter, agree-sym, dot-agree}
 
-module _ {S : Scalars} (F : Laws S) where
+module _ {S : Scalars} (F : ScalarLaws S) where
   -- a + b = 0 only where a = b
   pub sum-zero : (a b : ℕ) → S .add a b ≡ 0 → a ≡ b
   sum-zero a b h = sym (twice F a b) ∙ ap (λ (x : ℕ). S .add x b) h ∙ zero-add F b
 
   -- a combination to zero whose last factor that is not zero stands at k makes k free
-  pub last-free : (m n : ℕ) (M : ℕ → ℕ → ℕ) (e : ℕ → ℕ) (k : ℕ) → Elements S m n M → Small S n e → k < n
+  pub last-free : (m n : ℕ) (M : ℕ → ℕ → ℕ) (e : ℕ → ℕ) (k : ℕ) → Elements S m n M → RowElements S n e → k < n
       → ((i : ℕ) → i < m → dot S n (M i) e ≡ 0) → ((j : ℕ) → k < j → j < n → e j ≡ 0) → (e k ≡ 0 → ⊥) → Free S m M k
   unfolding dot
   last-free m n M e k el se l sum later nz =

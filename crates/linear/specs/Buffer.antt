@@ -1,4 +1,4 @@
--- A matrix in a buffer of bytes: rows of w bytes, one after the other.
+-- For inner contracts only. A matrix in a buffer of bytes: rows of w bytes, one after the other.
 use mathlib.Core.Bool.{Bool, true, false}
 use mathlib.Core.List.{List}
 use mathlib.Core.Path.{_≡_}
@@ -21,8 +21,8 @@ pub record Grid (S : Scalars) (l : List ℕ) (m w : ℕ) : Type 0 where
   pub elements : Elements S m w (cell w l)
 
 -- l is l₀ with v 0 to v (k - 1) written from a on
-pub record Filled (l₀ l : List ℕ) (a k : ℕ) (v : ℕ → ℕ) : Type 0 where
-  pub done : (j : ℕ) → j < k → getD l (a + j) 0 ≡ v j
+pub record Overwritten (l₀ l : List ℕ) (a k : ℕ) (v : ℕ → ℕ) : Type 0 where
+  pub new : (j : ℕ) → j < k → getD l (a + j) 0 ≡ v j
   pub low : (j : ℕ) → j < a → getD l j 0 ≡ getD l₀ j 0
   pub high : (j : ℕ) → a + k ≤ j → getD l j 0 ≡ getD l₀ j 0
 

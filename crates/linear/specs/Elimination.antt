@@ -1,4 +1,4 @@
--- Gauss-Jordan elimination, column by column: how far a matrix of m rows and w columns has come, and what each step does.
+-- For inner contracts only. Gauss-Jordan elimination, column by column: how far a matrix of m rows and w columns has come, and what each step does.
 use mathlib.Core.Path.{_≡_}
 use Prim.Native.Nat.{ℕ, _≤_, _<_}
 use Rattle.linear.specs.Scalars.{Scalars}
@@ -55,7 +55,7 @@ pub record PivotAdded (S : Scalars) (m w r p : ℕ) (M N : ℕ → ℕ → ℕ) 
 -- each row below t but r has as much of row r added as it had in column c; the others are as they were
 pub record Cleared (S : Scalars) (m w c r t : ℕ) (M N : ℕ → ℕ → ℕ) : Type 0 where
   pub kept : Agree w (N r) (M r)
-  pub done : (i : ℕ) → i < t → (i ≡ r → ⊥) → Agree w (N i) (plus S (M i) (times S (M i c) (M r)))
+  pub cleared : (i : ℕ) → i < t → (i ≡ r → ⊥) → Agree w (N i) (plus S (M i) (times S (M i c) (M r)))
   pub rest : (i : ℕ) → t ≤ i → i < m → Agree w (N i) (M i)
 
 -- ---- the end

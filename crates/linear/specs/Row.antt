@@ -4,7 +4,7 @@ use Prim.Native.Nat.{ℕ, zero, suc, _<_}
 use Rattle.linear.specs.Scalars.{Scalars}
 
 -- the entries at the places below k are elements
-pub record Small (S : Scalars) (k : ℕ) (r : ℕ → ℕ) : Type 0 where
+pub record RowElements (S : Scalars) (k : ℕ) (r : ℕ → ℕ) : Type 0 where
   pub at : (j : ℕ) → j < k → r j < S .size
 
 -- two rows have the same entries at the places below k

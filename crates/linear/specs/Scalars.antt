@@ -13,7 +13,7 @@ pub record Scalars : Type 0 where
   pub inv : ℕ → ℕ
 
 -- the laws: each element is its own opposite, and each element but 0 has an inverse
-pub record Laws (S : Scalars) : Type 0 where
+pub record ScalarLaws (S : Scalars) : Type 0 where
   pub one-below : 1 < S .size
   pub add-below : {a b : ℕ} → a < S .size → b < S .size → S .add a b < S .size
   pub mul-below : {a b : ℕ} → a < S .size → b < S .size → S .mul a b < S .size

@@ -4,15 +4,15 @@
 use mathlib.Core.Path.{_≡_}
 use Prim.Native.Nat.{ℕ, _<_}
 use Rattle.linear.specs.Scalars.{Scalars}
-use Rattle.linear.specs.Row.{Small, dot}
+use Rattle.linear.specs.Row.{RowElements, dot}
 
 -- the entries of the m rows at the columns below w are elements
 pub record Elements (S : Scalars) (m w : ℕ) (M : ℕ → ℕ → ℕ) : Type 0 where
-  pub at : (i : ℕ) → i < m → Small S w (M i)
+  pub at : (i : ℕ) → i < m → RowElements S w (M i)
 
 -- in each row, the columns before k, times the factors d, add up to column k
 pub record Combination (S : Scalars) (m : ℕ) (M : ℕ → ℕ → ℕ) (k : ℕ) (d : ℕ → ℕ) : Type 0 where
-  pub small : Small S k d
+  pub small : RowElements S k d
   pub row : (i : ℕ) → i < m → dot S k (M i) d ≡ M i k
 
 -- column k is a combination of earlier columns

@@ -5,7 +5,7 @@ ghost use lib.ListN.{length, getD, replicate};
 ghost use Rattle.field.specs.Mul.{Width};
 ghost use Rattle.linear.specs.Scalars.{scalars};
 ghost use Rattle.linear.specs.Row.{Agree, plus, times};
-ghost use Rattle.linear.specs.Buffer.{from, Filled};
+ghost use Rattle.linear.specs.Buffer.{from, Overwritten};
 
 // Copies the row at b.
 pub fn copy_row(matrix: &[u8], b: usize, columns: usize, row: &mut [u8])
@@ -23,7 +23,7 @@ pub fn copy_row(matrix: &[u8], b: usize, columns: usize, row: &mut [u8])
 pub fn add_multiple(width: u32, matrix: &mut [u8], columns: usize, a: usize, row: &[u8], f: u8)
     requires { ⌜ Width width ⌝ }
     requires { ⌜ (a + columns ≤ length (now matrix)) × (columns ≤ length (now row)) ⌝ }
-    ensures { λ _. ⌜ Filled (now (matrix .entry)) (now (matrix .exit)) a columns
+    ensures { λ _. ⌜ Overwritten (now (matrix .entry)) (now (matrix .exit)) a columns
         (plus (scalars width) (from (now (matrix .entry)) a) (times (scalars width) f (λ k. getD (now (row .entry)) k 0))) ⌝ }
 {
     let mut k = 0;
@@ -39,7 +39,7 @@ pub fn add_multiple(width: u32, matrix: &mut [u8], columns: usize, a: usize, row
 pub fn scale_row(width: u32, matrix: &mut [u8], columns: usize, a: usize, f: u8)
     requires { ⌜ Width width ⌝ }
     requires { ⌜ a + columns ≤ length (now matrix) ⌝ }
-    ensures { λ _. ⌜ Filled (now (matrix .entry)) (now (matrix .exit)) a columns
+    ensures { λ _. ⌜ Overwritten (now (matrix .entry)) (now (matrix .exit)) a columns
         (times (scalars width) f (from (now (matrix .entry)) a)) ⌝ }
 {
     let mut k = 0;

@@ -1,30 +1,48 @@
 -- Every check on paper holds.
-use mathlib.Core.Path.{_≡_, refl}
-use mathlib.Core.List.{map, flatten}
+use mathlib.Core.Path.{_≡_, refl, ap, ap₂}
+use mathlib.Core.List.{List, [], _∷_, _++_, map, flatten}
+use Prim.Native.Nat.{ℕ}
+use lib.ListN.{replicate}
 use Rattle.field.specs.Polynomial.{classes, exponents, combination, value}
-use Rattle.decomposition.specs.Layout.{termsOf}
-use Rattle.decomposition.specs.Fit.{houseBasis}
 use Rattle.field.proofs.Inverses.{products}
 use Rattle.xor.specs.Sum.{join}
-use Rattle.steps.specs.Program.{_>>=_, _>>_, note, random, loop, for, first, later, result}
+use Rattle.decomposition.specs.Layout.{termsOf, layout, sized}
+use Rattle.decomposition.specs.Record.{headed}
+use Rattle.decomposition.specs.Fit.{houseBasis}
+use Rattle.decomposition.proofs.Theorems.{zero-house}
+use Rattle.steps.specs.Program.{_>>=_, _>>_, note, random, loop, for, first, later, result, trace, draws}
+use Rattle.steps.specs.Program as program
 use Rattle.steps.specs.Fill.{tabulate}
+use Rattle.steps.specs.Tape.{elements, bytesFor}
 use Rattle.steps.specs.Operations.{column, maskedByte, splitShares}
 use Rattle.product.specs.Product.{start, pair, row, product}
-use Rattle.steps.specs.Shape.{touchesOf, loopShape, forShape}
-use Rattle.product.specs.Product.{pairShape, rowShape, productShape}
 use Rattle.sbox.specs.Form.{basisSize}
-use Rattle.sbox.specs.Shape.{times, squareShape, thirdShape, powersShape, termShape, polynomialShape, totalShape, sboxShape}
-use Rattle.decomposition.proofs.Theorems.{zero-house}
+use Rattle.sbox.specs.Polynomials.{polynomialsOf, basisIn, solutionIn}
+use Rattle.sbox.specs.Sbox as sbox
+use Rattle.sbox.specs.Figures.{sboxSteps}
+use Rattle.sbox.specs.Operations.{callProgram, callCounts}
 use Rattle.present.specs.Present.{turns, iterate, nibble, replace, onNibble, substitute, place, rotate, onTopNibbles, roundNumber, updateKey}
 use Rattle.present.specs.Present as present
-use Rattle.paper.specs.Cases.{Case, table, Checks}
+use Rattle.paper.specs.Cases.{Case, computed, zeroFit, splitValue, checks}
 
-rows : map (λ (c : Case). c .given) table ≡ map (λ (c : Case). c .said) table
-unfolding table houseBasis products classes flatten exponents combination value join
-    _>>=_ _>>_ note random loop for first later result start pair row product tabulate column maskedByte splitShares
-    touchesOf loopShape forShape pairShape rowShape productShape termsOf basisSize times squareShape thirdShape powersShape termShape polynomialShape totalShape sboxShape
+rows : map (λ (c : Case). c .given) computed ≡ map (λ (c : Case). c .said) computed
+unfolding computed houseBasis products classes flatten exponents combination value join
+    _>>=_ _>>_ note random loop for first later result trace draws program.products start pair row product tabulate elements bytesFor
+    layout sized termsOf headed basisSize polynomialsOf basisIn solutionIn
+    sbox.byShare sbox.square sbox.squares sbox.thirdClass sbox.powers sbox.constant sbox.term sbox.polynomial sbox.polynomials sbox.products sbox.total sbox.sbox sboxSteps callProgram callCounts
     turns iterate nibble replace onNibble present.table substitute place rotate onTopNibbles roundNumber updateKey
 rows = refl
 
-pub cases : Checks
-cases = record { rows = rows; zero-fit = zero-house }
+-- a fit of the zero table: what is asked of a fit settles what is written
+zero-fit : zeroFit .given ≡ zeroFit .said
+zero-fit = zero-house (replicate 448 0) (replicate 33 255) refl refl .1
+
+split-value : splitValue .given ≡ splitValue .said
+unfolding products join tabulate column maskedByte splitShares
+split-value = refl
+
+pub cases : map (λ (c : Case). c .given) checks ≡ map (λ (c : Case). c .said) checks
+unfolding checks computed
+cases =
+    ap₂ (λ (l m : List (List ℕ)). l ++ m) rows
+    (ap₂ (λ (x : List ℕ) (m : List (List ℕ)). x ∷ m) zero-fit (ap (λ (x : List ℕ). x ∷ []) split-value))

@@ -4,7 +4,7 @@ use Prim.Native.Nat.{ℕ, _+_, _*_, _^_, _≤_, _<_}
 use native.Mathlib.Omega.{arith}
 use Rattle.xor.specs.Xor.{_⊕_}
 use Rattle.steps.specs.Program.{Run, _>>_}
-use Rattle.steps.specs.Coupling.{Coupled, coupled-done}
+use Rattle.steps.specs.Coupling.{Coupled, coupled-return}
 use Rattle.steps.specs.Sharing.{Close}
 use Rattle.steps.proofs.Coupling.{coupled-bind, coupled-for}
 use Rattle.steps.proofs.Sharing.{close-at}
@@ -23,7 +23,7 @@ module _ (u : ℕ) (sbox : List ℕ → Run (List ℕ)) (hides : Hides u sbox) w
   unfolding maskedNibble
   coupled-nibble n k l {a} {b} c =
       coupled-bind (hides (map (nibble k) a) (map (nibble k) b) (close-map (nibble-linear n k) c)) λ v w d.
-      coupled-done (close-share-wise (replace-linear n k l) c d)
+      coupled-return (close-share-wise (replace-linear n k l) c d)
 
   pub coupled-sbox-layer : {a b : List ℕ} → Close 64 u a b
       → Coupled u (Close 64 u) (maskedSboxLayer sbox a) (maskedSboxLayer sbox b)
@@ -62,7 +62,7 @@ module _ (u s : ℕ) (z : Size) (sound : Sound z) where
       let n = keyBits z in
       let d : Close n u (shareWise _⊕_ a (alone (roundNumber z r))) (shareWise _⊕_ b (alone (roundNumber z r))) =
       close-share-wise (sum-linear n) c (close-alone n u (round-number-lt z sound r l)) in
-      coupled-bind (coupled-nibbles 0 _ _ (close-at d 0) (omega arith)) (λ x y p. coupled-done d)
+      coupled-bind (coupled-nibbles 0 _ _ (close-at d 0) (omega arith)) (λ x y p. coupled-return d)
 
 -- ---- the rounds
 
@@ -88,7 +88,7 @@ module _ (u : ℕ) (sbox : List ℕ → Run (List ℕ)) (hides : Hides u sbox) (
       coupled-bind (coupled-sbox-layer u sbox hides d) λ y y′ e.
       coupled-bind (coupled-permute u s e) λ b b′ f.
       coupled-bind (coupled-update r l (c .key-close)) λ k k′ g.
-      coupled-done (record { key-close = g; block-close = f })
+      coupled-return (record { key-close = g; block-close = f })
 
   pub encrypt-coupled : (a a′ b b′ : List ℕ) → Close (keyBits z) u a a′ → Close 64 u b b′
       → Coupled u (Close 64 u) (maskedEncrypt sbox z s a b) (maskedEncrypt sbox z s a′ b′)

@@ -5,8 +5,8 @@ use Prim.Native.Nat.{ℕ, suc, _+_, _-_, _≤_, _<_}
 use native.Mathlib.Nat.{sub-self}
 use native.Mathlib.Omega.{arith}
 use Rattle.steps.specs.Program.{one, Run, _>>=_, _>>_, note, for}
-use Rattle.steps.specs.Shape.{stepOf, Shape, Shaped, shaped-done, shaped-step, forShape}
-use Rattle.steps.specs.Coupling.{Coupled, coupled-done, coupled-step}
+use Rattle.steps.specs.Shape.{stepOf, Shape, Shaped, shaped-return, shaped-step, forShape}
+use Rattle.steps.specs.Coupling.{Coupled, coupled-return, coupled-step}
 use Rattle.steps.specs.Sharing.{share, CloseAt, Close}
 use Rattle.steps.proofs.Shape.{shaped-for, shaped-map}
 use Rattle.steps.proofs.Coupling.{coupled-bind, coupled-for, seen-one}
@@ -39,7 +39,7 @@ shaped-iterate Q σ {g} i s l h b a q =
 
 pub shaped-nibbles : (i k n x : ℕ) → k ≤ n → Shaped (λ u. Unit) (nibblesShape i k n) (noteNibbles i k n x)
 unfolding noteNibbles nibblesShape note _>>_ _>>=_
-shaped-nibbles i k n x l = shaped-for (λ j u. Unit) (λ j. stepOf (one i) ∷ []) k n l (λ j u g h p. shaped-step (shaped-done tt)) tt tt
+shaped-nibbles i k n x l = shaped-for (λ j u. Unit) (λ j. stepOf (one i) ∷ []) k n l (λ j u g h p. shaped-step (shaped-return tt)) tt tt
 
 pub shaped-recorded : {P : List ℕ → Type 0} (n s : ℕ) (a : List ℕ) → P a → Shaped P (sharesShape n s) (recorded n s a)
 unfolding recorded noteShares sharesShape _>>_
@@ -52,11 +52,11 @@ pub coupled-nibbles : {m u : ℕ} (i k n : ℕ) {x y : ℕ} → CloseAt m u i x 
     → Coupled u (λ c d. Unit) (noteNibbles i k n x) (noteNibbles i k n y)
 unfolding noteNibbles note _>>_ _>>=_
 coupled-nibbles {u = u} i k n c l =
-    coupled-for u (λ j a b. Unit) k n l (λ j a b g h p. coupled-step (seen-one (λ f. ap (nibble j) (c .agree f))) (coupled-done tt)) tt tt tt
+    coupled-for u (λ j a b. Unit) k n l (λ j a b g h p. coupled-step (seen-one (λ f. ap (nibble j) (c .agree f))) (coupled-return tt)) tt tt tt
 
 pub coupled-recorded : {m u : ℕ} (n s : ℕ) {a b : List ℕ} → Close m u a b → Coupled u (Close m u) (recorded n s a) (recorded n s b)
 unfolding recorded noteShares _>>_
 coupled-recorded {u = u} n s c =
     coupled-bind
     (coupled-for u (λ i a b. Unit) 0 s (omega arith) (λ i a b g h p. coupled-nibbles i 0 n (close-at c i) (omega arith)) tt tt tt)
-    (λ a b p. coupled-done c)
+    (λ a b p. coupled-return c)

@@ -5,13 +5,13 @@ use mathlib.Core.List.{List, _++_}
 use Prim.Native.Nat.{ℕ, _+_, _-_, _*_, _≤_, _<_}
 use native.Mathlib.Omega.{arith}
 use lib.ListN.{replicate}
-use Rattle.steps.specs.Program.{Run}
+use Rattle.steps.specs.Program.{Run, draws}
 use Rattle.steps.specs.Watch.{different, Misses}
-use Rattle.steps.specs.Choices.{choices}
+use Rattle.steps.specs.Choices.{Fits, choices}
 use Rattle.steps.specs.Shape.{drawOf, Shape, touchesOf, bitsOf, drawsOf, Uniform, Shaped}
 use Rattle.steps.specs.Coupling.{Coupled}
 use Rattle.steps.specs.Sharing.{Sharing, Close}
-use Rattle.steps.proofs.Shape.{touches-append, bits-append}
+use Rattle.steps.proofs.Shape.{touches-append, bits-append, shaped-draws}
 use Rattle.steps.proofs.Split.{shaped-split-two, coupled-split-two, draws-bits, draws-touches}
 use Rattle.steps.proofs.Secrecy.{untouched-share, few-steps}
 use Rattle.present.specs.Present.{substitute, Size, keyBits, Sound, size80, State, encrypt}
@@ -55,6 +55,13 @@ module _ (sbox : List ℕ → Run (List ℕ)) (z : Size) (sound : Sound z) (s : 
       coupled-split-two (keyBits z) 64 s u (x .key) (y .key) (x .block) (y .block) l
       (hx .key-small) (hy .key-small) (hx .block-small) (hy .block-small)
       (λ a a′ b b′ c d. encrypt-coupled u sbox hides s z sound a a′ b b′ c d)
+
+  -- THE CHOICE. The experiment draws the elements of a choice, and no other.
+  pub experiment-draws : 0 < s → (x : State ℕ) → Secret z x → (tape : List ℕ) → Fits (choiceBits z s σ) tape
+      → draws (experiment sbox z s x) tape ≡ choiceBits z s σ
+  experiment-draws pos x h tape f =
+      let e = experiment-bits z s σ in
+      shaped-draws (experiment-shaped pos x h) tape (rw e f) ∙ e
 
   -- THE UNTOUCHED SHARE. If the S-box hides share u and no step of the list touches share u, then for each list of values equally many choices show
   -- these values at the steps of the list, for any two secrets. The list has any length and order, with repeats.

@@ -1,4 +1,4 @@
--- Linear maps of numbers: what a masked program computes share by share.
+-- For proofs only. Linear maps of numbers: what a masked program computes share by share.
 use mathlib.Core.Path.{_≡_}
 use Prim.Native.Nat.{ℕ, _^_, _<_}
 use Rattle.xor.specs.Xor.{_⊕_}

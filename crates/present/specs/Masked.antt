@@ -4,7 +4,7 @@ use mathlib.Core.List.{List, [], _∷_, _++_, map}
 use Prim.Native.Nat.{ℕ, _+_}
 use lib.ListN.{replicate}
 use Rattle.xor.specs.Xor.{_⊕_}
-use Rattle.steps.specs.Program.{one, Run, done, _>>=_, _>>_, note, for}
+use Rattle.steps.specs.Program.{one, Run, return, _>>=_, _>>_, note, for}
 use Rattle.steps.specs.Shape.{stepOf, Shape, Shaped, forShape}
 use Rattle.steps.specs.Coupling.{Coupled}
 use Rattle.steps.specs.Sharing.{share, Sharing, Close}
@@ -41,7 +41,7 @@ held a = shareWise _⊕_ a (replicate 9 0)
 
 -- the nibbles of x from number k up to n, n not included, for share i
 unfoldable pub noteNibbles : ℕ → ℕ → ℕ → ℕ → Run Unit
-noteNibbles i k n x = for k n (λ j u. note (one i) (nibble j x) >> done u) tt
+noteNibbles i k n x = for k n (λ j u. note (one i) (nibble j x) >> return u) tt
 
 -- nibbles 0 to n - 1 of each of s shares, share by share
 unfoldable pub noteShares : ℕ → ℕ → List ℕ → Run Unit
@@ -49,7 +49,7 @@ noteShares n s a = for 0 s (λ i u. noteNibbles i 0 n (share a i)) tt
 
 -- a sharing, recorded
 unfoldable pub recorded : ℕ → ℕ → List ℕ → Run (List ℕ)
-recorded n s a = noteShares n s a >> done a
+recorded n s a = noteShares n s a >> return a
 
 -- ---- the parts of a round
 
@@ -70,14 +70,14 @@ unfoldable pub addRoundNumber : Size → ℕ → List ℕ → Run (List ℕ)
 addRoundNumber z r k = do
   let b = shareWise _⊕_ k (alone (roundNumber z r))
   noteNibbles 0 (numberNibble z) (numberNibble z + 2) (share b 0)
-  done b
+  return b
 
 module _ (sbox : List ℕ → Run (List ℕ)) where
   -- the S-box on nibble k
   unfoldable pub maskedNibble : ℕ → List ℕ → Run (List ℕ)
   maskedNibble k a = do
     v ← sbox (map (nibble k) a)
-    done (shareWise (replace k) a v)
+    return (shareWise (replace k) a v)
 
   -- the S-box on nibbles 0 to 15
   unfoldable pub maskedSboxLayer : List ℕ → Run (List ℕ)
@@ -103,7 +103,7 @@ module _ (sbox : List ℕ → Run (List ℕ)) where
     y ← maskedSboxLayer x
     b ← maskedPermute s y
     k ← maskedUpdate z s r (a .key)
-    done (record { key = k; block = b })
+    return (record { key = k; block = b })
 
   -- the masked block of a key and a block, of s shares: they are held in nine places; rounds 1 to 31 and a last key addition
   unfoldable pub maskedEncrypt : Size → ℕ → List ℕ → List ℕ → Run (List ℕ)

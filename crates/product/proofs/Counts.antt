@@ -4,7 +4,6 @@ use mathlib.Core.List.{[], _∷_}
 use Prim.Native.Nat.{ℕ, zero, suc, _+_, _-_, _*_, _/_}
 use native.Mathlib.Nat.{zero-mul, add-mul, suc-mul, mul-suc, mul-sub, mul-one, mul-div-cancel, zero-lt-suc, sub-zero}
 use native.Mathlib.Omega.{arith}
-use lib.ListN.{replicate}
 use Rattle.steps.specs.Program.{one}
 use Rattle.steps.specs.Shape.{stepOf, marked, Shape, touchesOf, bitsOf, stepsOf, drawsOf, productsOf, Counting, Uniform, forShape}
 use Rattle.steps.proofs.Shape.{counts-steps, counts-draws, counts-products, counts-for, for-shape-turn, for-shape-end, uniform-append, uniform-for}
@@ -69,6 +68,3 @@ uniform-product n s =
     uniform-append n (marked ∷ forShape 0 s (λ i. stepOf (one i) ∷ [])) (forShape 0 s (rowShape n s))
     (uniform-for n 0 s (λ i. stepOf (one i) ∷ []) (λ i. refl))
     (uniform-for n 0 s (rowShape n s) (λ i. uniform-for n (i + 1) s (pairShape n i) (λ j. refl)))
-
-pub product-bits : (n s : ℕ) → bitsOf (productShape n s) ≡ replicate (s * (s - 1) / 2) n
-product-bits n s = uniform-product n s ∙ ap (λ (k : ℕ). replicate k n) (product-draws n s)

@@ -12,7 +12,7 @@ use Rattle.xor.proofs.Xor.{⊕-lt, ⊕-zero, xor}
 use Rattle.field.specs.Mul.{mul, Ring}
 use Rattle.field.proofs.Ring.{mul-small}
 use Rattle.steps.specs.Program.{note, random, _>>=_, _>>_}
-use Rattle.steps.specs.Coupling.{Coupled, coupled-done, coupled-step, coupled-draw, coupled-mark}
+use Rattle.steps.specs.Coupling.{Coupled, coupled-return, coupled-step, coupled-draw, coupled-mark}
 use Rattle.steps.specs.Sharing.{share, CloseAt, Close}
 use Rattle.steps.proofs.Coupling.{coupled-bind, coupled-for, seen-one, seen-two}
 use Rattle.steps.proofs.Sharing.{close-set, close-self, coupled-note, coupled-store, small-zeros}
@@ -58,7 +58,7 @@ module _ {n : ℕ} (ring : Ring n) (u : ℕ) {a a′ b b′ : List ℕ} (ha : Cl
       (coupled-step (seen-two (λ f g. keep′ r g))
       (coupled-step (seen-one (cᵢ .agree))
       (coupled-step (seen-one (cⱼ .agree))
-      (coupled-done (close-set (close-set hc i cᵢ) j cⱼ))))))))
+      (coupled-return (close-set (close-set hc i cᵢ) j cⱼ))))))))
 
   -- if the pair's first share is u the draw is shifted so that r′ stays, otherwise it is not
   coupled-pair : (i j : ℕ) {c c′ : List ℕ} → Close n u c c′ → Coupled u (Close n u) (pair n a b i j c) (pair n a′ b′ i j c′)

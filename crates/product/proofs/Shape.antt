@@ -13,7 +13,7 @@ use Rattle.field.specs.Mul.{mul, Ring}
 use Rattle.field.proofs.Ring.{mul-small}
 use Rattle.steps.specs.Program.{one, _>>=_, _>>_, note, random, for, result}
 use Rattle.steps.specs.Choices.{Fits}
-use Rattle.steps.specs.Shape.{bitsOf, stepOf, forShape, Shaped, shaped-done, shaped-step, shaped-draw, shaped-mark}
+use Rattle.steps.specs.Shape.{bitsOf, stepOf, forShape, Shaped, shaped-return, shaped-step, shaped-draw, shaped-mark}
 use Rattle.steps.specs.Sharing.{share, Sharing, Filled}
 use Rattle.steps.proofs.Shape.{shaped-bind, shaped-for, shaped-weaken, shaped-note, shaped-result}
 use Rattle.steps.proofs.Sharing.{forSum, for-sum-turn, for-sum-end, join-for, set-small, filled-none, filled-sharing, shaped-store}
@@ -42,7 +42,7 @@ module _ {n : ℕ} (ring : Ring n) (s total : ℕ) (a b : List ℕ) (nine : s �
       let hz : z < 2 ^ n = mul-small ring (share a j) (share b i) (ha j) in
       let r′ = r ⊕ x ⊕ z in
       let first = set c i (share c i ⊕ r) in
-      shaped-step (shaped-step (shaped-step (shaped-step (shaped-step (shaped-step (shaped-step (shaped-done (record {
+      shaped-step (shaped-step (shaped-step (shaped-step (shaped-step (shaped-step (shaped-step (shaped-return (record {
         places = length-set first j (share c j ⊕ r′) ∙ length-set c i (share c i ⊕ r) ∙ h .places;
         small =
             set-small n first j (share c j ⊕ r′) (set-small n c i (share c i ⊕ r) (h .small) (⊕-lt n (h .small i) d))

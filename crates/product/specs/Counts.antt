@@ -1,4 +1,4 @@
--- How many pairs of shares there are.
+-- For inner contracts only. How many pairs of shares there are.
 use Prim.Native.Nat.{ℕ, zero, suc, _+_, _-_, _*_}
 
 -- the pairs among k shares

@@ -4,7 +4,7 @@ use Prim.Native.Nat.{ℕ, _+_}
 use lib.ListN.{set, replicate}
 use Rattle.xor.specs.Xor.{_⊕_}
 use Rattle.field.specs.Mul.{mul}
-use Rattle.steps.specs.Program.{Run, done, mark, one, two, _>>=_, _>>_, note, random, for}
+use Rattle.steps.specs.Program.{Run, return, mark, one, two, _>>=_, _>>_, note, random, for}
 use Rattle.steps.specs.Shape.{Shape, stepOf, drawOf, marked, forShape}
 use Rattle.steps.specs.Sharing.{share}
 
@@ -12,7 +12,7 @@ use Rattle.steps.specs.Sharing.{share}
 unfoldable pub start : ℕ → List ℕ → List ℕ → ℕ → List ℕ → Run (List ℕ)
 start n a b i c = do
   v ← note (one i) (mul n (share a i) (share b i))
-  done (set c i v)
+  return (set c i v)
 
 -- the seven steps of the pair of shares i and j: the random r; a_i · b_j; r plus that; a_j · b_i; r′, the sum of the last two; c_i + r; c_j + r′
 unfoldable pub pair : ℕ → List ℕ → List ℕ → ℕ → ℕ → List ℕ → Run (List ℕ)
@@ -25,7 +25,7 @@ pair n a b i j c = do
   r′ ← note (two i j) (y ⊕ z)
   u ← note (one i) (share c i ⊕ r)
   v ← note (one j) (share c j ⊕ r′)
-  done (set (set c i u) j v)
+  return (set (set c i u) j v)
 
 -- the pairs of share i with each share after it
 unfoldable pub row : ℕ → ℕ → List ℕ → List ℕ → ℕ → List ℕ → Run (List ℕ)

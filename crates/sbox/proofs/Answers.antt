@@ -1,5 +1,6 @@
 -- ANSWERS ALIKE. Two calls of S-box, or of Watch S-box, with the same record, share count, list and slice lengths, and with elements that are too large,
 -- if any, at the same places, give the same answer, whatever the shares and the random elements; and what they hand back are the paper's figures.
+-- What is too large goes by the width: it is asked only of a record that Read accepts. Calls with one that it refuses answer alike in any case.
 use mathlib.Core.Path.{_≡_, refl, sym, ap, ap₂, _∙_}
 use mathlib.Core.Bool.{Bool}
 use mathlib.Core.List.{List, [], _∷_, _++_}
@@ -10,14 +11,16 @@ use lib.ListN.{length, length-append, length-replicate, List·getD-eq-default}
 use lib.Pow.{pow-pos}
 use Rattle.xor.specs.Sum.{join, Small}
 use Rattle.refusal.specs.Watch.{listFits, testSteps}
-use Rattle.refusal.specs.Outcome.{Outcome, done, andThen}
+use Rattle.refusal.specs.Outcome.{Outcome, done, refused, andThen}
 use Rattle.refusal.specs.Large.{firstLarge, LargeAlike}
 use Rattle.refusal.proofs.Large.{all-small, large-same, alike-append, both-small}
 use Rattle.steps.specs.Sharing.{Sharing}
 use Rattle.steps.specs.Tape.{elements, bytesFor}
 use Rattle.steps.proofs.Tape.{elements-length}
-use Rattle.sbox.specs.Figures.{sboxProducts, sboxDraws, sboxSteps}
+use Rattle.sbox.specs.Figures.{sboxDraws, sboxSteps, figures}
+use Rattle.sbox.specs.Alike.{SamePlaces}
 use Rattle.decomposition.specs.Record.{widthOf, readOutcome}
+use Rattle.decomposition.proofs.ReadOutcome.{read-values}
 use Rattle.sbox.specs.Operations.{callProgram, callCounts, argumentTests, callTests, sboxOutcome, watchOutcome, Callable}
 use Rattle.sbox.proofs.Record.{accepted-record}
 use Rattle.sbox.proofs.Runs.{trace-length, draws-are, products-length}
@@ -26,43 +29,45 @@ use Rattle.refusal.specs.Range.{oneTo}
 use Rattle.refusal.proofs.Outcome.{passed, then-passed, done-values, then-alike}
 use borrow.Author.Tests.{leb-true}
 
--- the figures of a call of width n and s shares
-unfoldable pub figures : ℕ → ℕ → List ℕ
-figures n s = sboxProducts n ∷ bytesFor n (sboxDraws n s) ∷ sboxSteps n s ∷ []
-
 -- s small elements are a sharing of their sum
-sharing-of : (n s : ℕ) (a : List ℕ) → length a ≡ s → Small n a → Sharing n s (join a) a
+pub sharing-of : (n s : ℕ) (a : List ℕ) → length a ≡ s → Small n a → Sharing n s (join a) a
 sharing-of n s a e h = record { small = h; past = λ i l. List·getD-eq-default a 0 {n = i} (omega arith); joins = refl }
-
--- two calls whose slices have the same lengths, and their elements that are too large, if any, at the same places
-pub record SamePlaces (n : ℕ) (shares shares′ random random′ : List ℕ) : Type 0 where
-  pub same-shares : length shares ≡ length shares′
-  pub same-random : length random ≡ length random′
-  pub large-shares : LargeAlike (2 ^ n) shares shares′
-  pub large-random : LargeAlike (2 ^ n) (elements n random) (elements n random′)
 
 -- ---- the tests go by lengths and by the places of elements that are too large
 
-tests-alike : (r : List ℕ) (s : ℕ) {shares shares′ random random′ : List ℕ} → SamePlaces (widthOf r) shares shares′ random random′
-    → (fits : Bool) → callTests r s shares random fits ≡ callTests r s shares′ random′ fits
-unfolding callTests argumentTests
-tests-alike r s {shares} {shares′} {random} {random′} h fits =
-    let n = widthOf r in
+arguments-alike : (n s : ℕ) (shares shares′ random random′ : List ℕ) → length shares ≡ length shares′ → length random ≡ length random′
+    → LargeAlike (2 ^ n) shares shares′ → LargeAlike (2 ^ n) (elements n random) (elements n random′)
+    → (fits : Bool) → argumentTests n s shares random fits ≡ argumentTests n s shares′ random′ fits
+unfolding argumentTests
+arguments-alike n s shares shares′ random random′ same-shares same-random large-shares large-random fits =
     let l = shares ++ elements n random in
     let l′ = shares′ ++ elements n random′ in
     let whole : length l ≡ length l′ =
     length-append shares (elements n random)
-    ∙ ap₂ (λ (a b : ℕ). a + b) (h .same-shares) (elements-length n random random′ (h .same-random))
+    ∙ ap₂ (λ (a b : ℕ). a + b) same-shares (elements-length n random random′ same-random)
     ∙ sym (length-append shares′ (elements n random′)) in
     let first : firstLarge (2 ^ n) l ≡ firstLarge (2 ^ n) l′ =
     large-same (2 ^ n) l l′ whole
-    (alike-append (2 ^ n) shares shares′ (elements n random) (elements n random′) (h .same-shares) (h .large-shares) (h .large-random)) in
-    rw (h .same-shares, h .same-random, whole, first)
+    (alike-append (2 ^ n) shares shares′ (elements n random) (elements n random′) same-shares large-shares large-random) in
+    rw (same-shares, same-random, whole, first)
+
+tests-alike : (r : List ℕ) (s : ℕ) {shares shares′ random random′ : List ℕ} → SamePlaces r shares shares′ random random′
+    → (fits : Bool) → callTests r s shares random fits ≡ callTests r s shares′ random′ fits
+unfolding callTests
+tests-alike r s {shares} {shares′} {random} {random′} h fits = go (readOutcome r) refl
+  where
+    go : (o : Outcome) → readOutcome r ≡ o
+        → andThen o (argumentTests (widthOf r) s shares random fits) ≡ andThen o (argumentTests (widthOf r) s shares′ random′ fits)
+    go (refused number place) e = refl
+    go (done v) e =
+        let n = widthOf r in
+        let read : readOutcome r ≡ done (n ∷ []) = e ∙ ap done (sym (read-values r e .1)) in
+        arguments-alike n s shares shares′ random random′ (h .same-shares) (h .same-random) (h .large-shares n read) (h .large-random n read) fits
 
 -- ---- where the tests are passed the figures are the paper's
 
 -- all elements are small, and the width is handed on
-elements-small : (r : List ℕ) (s : ℕ) (shares random : List ℕ) (fits : Bool) {v : List ℕ} → callTests r s shares random fits ≡ done v
+pub elements-small : (r : List ℕ) (s : ℕ) (shares random : List ℕ) (fits : Bool) {v : List ℕ} → callTests r s shares random fits ≡ done v
     → Small (widthOf r) shares × Small (widthOf r) (elements (widthOf r) random) × (done (widthOf r ∷ []) ≡ done v)
 unfolding callTests argumentTests
 elements-small r s shares random fits e =
@@ -78,12 +83,12 @@ elements-small r s shares random fits e =
     (all-small (2 ^ n) shares (pow-pos n) (both .0), all-small (2 ^ n) (elements n random) (pow-pos n) (both .1), g .1)
 
 -- the call is one that can run
-passed-call : (r : List ℕ) (s : ℕ) (shares random : List ℕ) (fits : Bool) {v : List ℕ} → callTests r s shares random fits ≡ done v
+pub passed-call : (r : List ℕ) (s : ℕ) (shares random : List ℕ) (fits : Bool) {v : List ℕ} → callTests r s shares random fits ≡ done v
     → Callable (widthOf r) r s shares random
 passed-call r s shares random fits e =
     tests-passed r s shares random fits (widthOf r) (e ∙ sym (elements-small r s shares random fits e .2)) .0
 
-counts-figures : (r : List ℕ) (s : ℕ) (shares random : List ℕ) (fits : Bool) {v : List ℕ} → callTests r s shares random fits ≡ done v
+pub counts-figures : (r : List ℕ) (s : ℕ) (shares random : List ℕ) (fits : Bool) {v : List ℕ} → callTests r s shares random fits ≡ done v
     → callCounts r s shares random ≡ figures (widthOf r) s
 unfolding callCounts callProgram figures
 counts-figures r s shares random fits e =
@@ -100,7 +105,7 @@ counts-figures r s shares random fits e =
 
 -- ---- the answers
 
-answers-alike : (r : List ℕ) (s : ℕ) {shares shares′ random random′ : List ℕ} → SamePlaces (widthOf r) shares shares′ random random′
+answers-alike : (r : List ℕ) (s : ℕ) {shares shares′ random random′ : List ℕ} → SamePlaces r shares shares′ random random′
     → (fits : Bool) (next : List ℕ → Outcome)
     → andThen (callTests r s shares random fits) (next (callCounts r s shares random))
     ≡ andThen (callTests r s shares′ random′ fits) (next (callCounts r s shares′ random′))
@@ -109,13 +114,13 @@ answers-alike r s {shares} {shares′} {random} {random′} h fits next =
     then-alike (callTests r s shares random fits) next (callCounts r s shares random) (callCounts r s shares′ random′) same
     (λ v p. counts-figures r s shares random fits p ∙ sym (counts-figures r s shares′ random′ fits (sym same ∙ p)))
 
-pub sbox-answers : (r : List ℕ) (s : ℕ) {shares shares′ random random′ : List ℕ} (out : ℕ) → SamePlaces (widthOf r) shares shares′ random random′
+pub sbox-answers : (r : List ℕ) (s : ℕ) {shares shares′ random random′ : List ℕ} (out : ℕ) → SamePlaces r shares shares′ random random′
     → sboxOutcome r s shares random out ≡ sboxOutcome r s shares′ random′ out
 unfolding sboxOutcome
 sbox-answers r s out h = answers-alike r s h (eqb out s) done
 
 pub watch-answers : (r : List ℕ) (s : ℕ) {shares shares′ random random′ : List ℕ} (list : List ℕ) (values : ℕ)
-    → SamePlaces (widthOf r) shares shares′ random random′
+    → SamePlaces r shares shares′ random random′
     → watchOutcome r s shares random list values ≡ watchOutcome r s shares′ random′ list values
 unfolding watchOutcome
 watch-answers r s list values h =
@@ -128,3 +133,14 @@ unfolding sboxOutcome
 sbox-figures r s shares random out e =
     let a = then-passed (callTests r s shares random (eqb out s)) _ e in
     done-values (sym (a .2)) ∙ counts-figures r s shares random (eqb out s) (a .1)
+
+-- a watch that is done hands back the same
+pub watch-figures : (r : List ℕ) (s : ℕ) (shares random list : List ℕ) (values : ℕ) {v : List ℕ}
+    → watchOutcome r s shares random list values ≡ done v → v ≡ figures (widthOf r) s
+unfolding watchOutcome
+watch-figures r s shares random list values e =
+    let fits = listFits (length list) values in
+    let total = sboxSteps (widthOf r) s in
+    let a = then-passed (callTests r s shares random fits) _ e in
+    let b = passed (leb (length list) (firstLarge total list)) 8 (firstLarge total list) _ (a .2) in
+    done-values (sym (b .1)) ∙ counts-figures r s shares random fits (a .1)

@@ -159,13 +159,3 @@ module _ (n s : ℕ) where
 
 pub sbox-bits : (n s : ℕ) → Width n → bitsOf (sboxShape n s (basisSize n)) ≡ replicate (sboxDraws n s) n
 sbox-bits n s w = uniform-sbox n s (basisSize n) ∙ ap (λ (k : ℕ). replicate k n) (sbox-draws n s w)
-
--- ---- check (j) on paper: three shares
-
-pub three-shares-4 : stepsOf (sboxShape 4 3 1) ≡ 213
-unfolding basisSize termsOf sboxSteps
-three-shares-4 = sbox-steps 4 3 (inl refl)
-
-pub three-shares-6 : stepsOf (sboxShape 6 3 3) ≡ 930
-unfolding basisSize termsOf sboxSteps
-three-shares-6 = sbox-steps 6 3 (inr refl)

@@ -12,7 +12,7 @@ use Rattle.xor.proofs.Xor.{⊕-lt}
 use Rattle.field.specs.Mul.{mul, Ring}
 use Rattle.field.specs.Polynomial.{exponents}
 use Rattle.field.proofs.Ring.{mul-small}
-use Rattle.steps.specs.Coupling.{Coupled, coupled-done}
+use Rattle.steps.specs.Coupling.{Coupled, coupled-return}
 use Rattle.steps.specs.Sharing.{share, CloseAt, Close, CloseAll, close-nil, close-cons}
 use Rattle.steps.proofs.Coupling.{coupled-bind, coupled-for}
 use Rattle.steps.proofs.Sharing.{close-at, close-nth, close-append, coupled-note}
@@ -50,15 +50,15 @@ module _ {n : ℕ} (ring : Ring n) (s u : ℕ) where
 
   coupled-squares : (k : ℕ) {a a′ : List ℕ} → Close n u a a′ → Coupled u (CloseAll n u) (squares n s k a) (squares n s k a′)
   unfolding squares
-  coupled-squares zero h = coupled-done (close-cons h close-nil)
+  coupled-squares zero h = coupled-return (close-cons h close-nil)
   coupled-squares (suc k) h =
-      coupled-bind (coupled-square h) λ b b′ hb. coupled-bind (coupled-squares k hb) λ l l′ hl. coupled-done (close-cons h hl)
+      coupled-bind (coupled-square h) λ b b′ hb. coupled-bind (coupled-squares k hb) λ l l′ hl. coupled-return (close-cons h hl)
 
   coupled-third : (b : Bool) {xs xs′ ys ys′ : List (List ℕ)} → CloseAll n u xs xs′ → CloseAll n u ys ys′
       → Coupled u (CloseAll n u) (thirdClass b n s xs ys) (thirdClass b n s xs′ ys′)
   unfolding thirdClass
   coupled-third true hx hy = coupled-bind (coupled-product ring u (close-nth hy 0) (close-nth hx 3) s) λ z z′ hz. coupled-squares (n - 1) hz
-  coupled-third false hx hy = coupled-done close-nil
+  coupled-third false hx hy = coupled-return close-nil
 
   coupled-powers : {a a′ : List ℕ} → Close n u a a′ → Coupled u (CloseAll n u) (powers n s a) (powers n s a′)
   unfolding powers
@@ -67,7 +67,7 @@ module _ {n : ℕ} (ring : Ring n) (s u : ℕ) where
       coupled-bind (coupled-product ring u (close-nth hx 0) (close-nth hx 1) s) λ y y′ hy.
       coupled-bind (coupled-squares (n - 1) hy) λ ys ys′ hys.
       coupled-bind (coupled-third (eqb n 6) hx hys) λ zs zs′ hz.
-      coupled-done (close-append hx (close-append hys hz))
+      coupled-return (close-append hx (close-append hys hz))
 
   coupled-polynomial : (cs : List ℕ) {ws ws′ : List (List ℕ)} → Small n cs → CloseAll n u ws ws′
       → Coupled u (Close n u) (polynomial n s ws cs) (polynomial n s ws′ cs)
@@ -82,20 +82,20 @@ module _ {n : ℕ} (ring : Ring n) (s u : ℕ) where
   coupled-polynomials : (css : List (List ℕ)) {ws ws′ : List (List ℕ)} → SmallAll n css → CloseAll n u ws ws′
       → Coupled u (CloseAll n u) (polynomials n s ws css) (polynomials n s ws′ css)
   unfolding polynomials
-  coupled-polynomials [] hc hw = coupled-done close-nil
+  coupled-polynomials [] hc hw = coupled-return close-nil
   coupled-polynomials (cs ∷ css) hc hw =
       coupled-bind (coupled-polynomial cs (hc 0) hw) λ a a′ ha.
       coupled-bind (coupled-polynomials css (λ k. hc (suc k)) hw) λ l l′ hl.
-      coupled-done (close-cons ha hl)
+      coupled-return (close-cons ha hl)
 
   coupled-products : {ps ps′ qs qs′ : List (List ℕ)} → CloseAll n u ps ps′ → CloseAll n u qs qs′ → (j k : ℕ)
       → Coupled u (CloseAll n u) (products n s ps qs j k) (products n s ps′ qs′ j k)
   unfolding products
-  coupled-products hp hq j zero = coupled-done close-nil
+  coupled-products hp hq j zero = coupled-return close-nil
   coupled-products hp hq j (suc k) =
       coupled-bind (coupled-product ring u (close-nth hp j) (close-nth hq j) s) λ a a′ ha.
       coupled-bind (coupled-products hp hq (suc j) k) λ l l′ hl.
-      coupled-done (close-cons ha hl)
+      coupled-return (close-cons ha hl)
 
   coupled-total : {ts ts′ : List (List ℕ)} → CloseAll n u ts ts′ → (k : ℕ) → Coupled u (Close n u) (total s ts k) (total s ts′ k)
   unfolding total

@@ -17,4 +17,8 @@ pub mod TableFigures
 pub mod Widths
 pub mod Calls
 pub mod Answers
+pub mod Output
+pub mod Settles
+pub mod Chain
 pub mod Watched
+pub mod Tapes

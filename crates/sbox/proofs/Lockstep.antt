@@ -12,10 +12,10 @@ use lib.ListN.{length, getD, set, replicate, length-append, length-set, List·ge
 use lib.Seq.{getD-set-same, getD-set-other, getD-append-add, getD-at}
 use Rattle.xor.specs.Xor.{_⊕_}
 use Rattle.field.specs.Polynomial.{classes, exponents}
-use Rattle.steps.specs.Program.{Run, done, mark, one, _>>=_, note, loop, for}
+use Rattle.steps.specs.Program.{Run, return, mark, one, _>>=_, note, loop, for}
 use Rattle.steps.specs.Sharing.{share}
 use Rattle.steps.proofs.Program.{bind-bind, for-same, for-split, for-turn, for-end}
-use Rattle.steps.proofs.Lockstep.{Lockstep, lockstep-done, lockstep-step, lockstep-bind, lockstep-right, lockstep-self, lockstep-left}
+use Rattle.steps.proofs.Lockstep.{Lockstep, lockstep-return, lockstep-step, lockstep-bind, lockstep-right, lockstep-self, lockstep-left}
 use Rattle.steps.proofs.Lockstep.{lockstep-weaken, lockstep-for, lockstep-same}
 use Rattle.steps.proofs.Sharing.{share-zeros}
 use Rattle.product.specs.Product.{start, pair, row, product}
@@ -70,7 +70,7 @@ module _ (n s : ℕ) (nine : s ≤ 9) where
   lockstep-by-share {t} l {f} {g} hl h turn =
       lockstep-weaken
       (lockstep-for (λ i t c. Holds s t (l ++ (c ∷ [])) × (length c ≡ 9)) 0 s (omega arith)
-      (λ i t c k m p. lockstep-right (turn i t c m (p .0)) (λ t′ v e. lockstep-done (stored i t c v t′ m p e)))
+      (λ i t c k m p. lockstep-right (turn i t c m (p .0)) (λ t′ v e. lockstep-return (stored i t c v t′ m p e)))
       t (replicate 9 0) (holds-last l [] (replicate 9 0) (λ i k. sym (share-zeros 9 i)) (holds-open h), refl))
       (λ t′ c p. p .0)
     where
@@ -91,7 +91,7 @@ module _ (n s : ℕ) (nine : s ≤ 9) where
       let v : cell t (length l) i ≡ share a i =
       p .cells (length l) i (omega arith)
       ∙ ap (λ (b : List ℕ). share b i) (List·getD-append (l ++ (a ∷ [])) (c ∷ []) [] (length l) (omega arith) ∙ getD-at l a [] [] (length l) refl) in
-      rw (v, e) (lockstep-step (lockstep-done refl)))
+      rw (v, e) (lockstep-step (lockstep-return refl)))
 
   -- the masked product of two rows
   lockstep-multiply : {t : List ℕ} (l : List (List ℕ)) (x y : ℕ) → length l < 28 → Holds s t l
@@ -107,12 +107,12 @@ module _ (n s : ℕ) (nine : s ≤ 9) where
   lockstep-squares : {t : List ℕ} (k : ℕ) (l : List (List ℕ)) (a : List ℕ) → length l + k < 28 → Holds s t (l ++ (a ∷ []))
       → Lockstep (λ t′ m. Holds s t′ (l ++ m) × (length m ≡ suc k)) (loop (squareRow n s) (length l) k t) (squares n s k a)
   unfolding loop squares
-  lockstep-squares zero l a hl h = lockstep-done (h, refl)
+  lockstep-squares zero l a hl h = lockstep-return (h, refl)
   lockstep-squares (suc k) l a hl h =
       lockstep-bind (lockstep-square l a (omega arith) h) (λ t′ b p.
       let e : length l + 1 ≡ length (l ++ (a ∷ [])) = sym (length-append l (a ∷ [])) in
       rw e (lockstep-right (lockstep-squares k (l ++ (a ∷ [])) b (omega arith) p) (λ t″ m q.
-      lockstep-done (rw append-assoc at (q .0), ap suc (q .1)))))
+      lockstep-return (rw append-assoc at (q .0), ap suc (q .1)))))
 
   -- the class of a product
   lockstep-class : {t : List ℕ} (k : ℕ) (l : List (List ℕ)) (x y z last : ℕ) → length l ≡ z → z + k ≡ last → last < 28
@@ -126,7 +126,7 @@ module _ (n s : ℕ) (nine : s ≤ 9) where
   -- the class of x ^ 11, and all powers
   lockstep-third : {t : List ℕ} (b : Bool) → eqb n 6 ≡ b → (xs ys : List (List ℕ)) → length xs ≡ n → length ys ≡ n → Holds s t (xs ++ ys)
       → Lockstep (λ t′ ws. Holds s t′ ws × (length ws ≡ cond b (3 * n) (2 * n))) (thirdRows b n s t)
-      (thirdClass b n s xs ys >>= (λ zs. done (xs ++ (ys ++ zs))))
+      (thirdClass b n s xs ys >>= (λ zs. return (xs ++ (ys ++ zs))))
   unfolding thirdRows thirdClass exponents classes flatten factor _>>=_
   lockstep-third true e xs ys lx ly h =
       let six : n ≡ 6 = eqb-true n 6 e in
@@ -134,9 +134,9 @@ module _ (n s : ℕ) (nine : s ≤ 9) where
       let at-6 : nth (xs ++ ys) 6 ≡ nth ys 0 = let p : 6 ≡ length xs + 0 = omega arith in rw p (getD-append-add xs ys 0 []) in
       let at-3 : nth (xs ++ ys) 3 ≡ nth xs 3 = List·getD-append xs ys [] 3 (omega arith) in
       lockstep-right (rw (at-6, at-3) at (lockstep-class (n - 1) (xs ++ ys) 6 3 12 17 l (omega arith) (omega arith) (rw six refl) (rw six refl) h)) (λ t′ zs p.
-      lockstep-done (rw append-assoc at (p .0), simp length-append (omega arith)))
+      lockstep-return (rw append-assoc at (p .0), simp length-append (omega arith)))
   lockstep-third {t} false e xs ys lx ly h =
-      lockstep-done {a = t} {b = xs ++ (ys ++ [])} (rw append-nil h, simp (append-nil, length-append) (omega arith))
+      lockstep-return {a = t} {b = xs ++ (ys ++ [])} (rw append-nil h, simp (append-nil, length-append) (omega arith))
 
   lockstep-powers : {t : List ℕ} (x : List ℕ) → 1 < n → 2 * n ≤ 28 → exponentOf n n ≡ 3 → Holds s t (x ∷ [])
       → Lockstep (λ t′ ws. Holds s t′ ws × (length ws ≡ cond (eqb n 6) (3 * n) (2 * n))) (powerRows n s t) (powers n s x)
@@ -145,7 +145,7 @@ module _ (n s : ℕ) (nine : s ≤ 9) where
       let first : Lockstep (λ t′ m. Holds s t′ m × (length m ≡ suc (n - 1))) (for 0 (n - 1) (squareRow n s) t) (squares n s (n - 1) x) =
       rw sub-zero (lockstep-squares (n - 1) [] x (omega arith) h) in
       lockstep-bind first (λ t₁ xs p.
-      let third : List (List ℕ) → Run (List (List ℕ)) = λ ys. thirdClass (eqb n 6) n s xs ys >>= (λ zs. done (xs ++ (ys ++ zs))) in
+      let third : List (List ℕ) → Run (List (List ℕ)) = λ ys. thirdClass (eqb n 6) n s xs ys >>= (λ zs. return (xs ++ (ys ++ zs))) in
       rw (← bind-bind (product n s (nth xs 0) (nth xs 1)) (squares n s (n - 1)) third)
       (lockstep-bind (lockstep-class (n - 1) xs 0 1 n (2 * n - 1) (omega arith) (omega arith) (omega arith) (rw begins refl) (rw begins refl) (p .0)) (λ t₂ ys q.
       lockstep-third (eqb n 6) refl xs ys (omega arith) (omega arith) (q .0))))
@@ -180,7 +180,7 @@ module _ (n s : ℕ) (nine : s ≤ 9) where
         → ((i : ℕ) → i < length css → Reads k rec (j + i) (nth css i)) → Holds s t (ws ++ m)
         → Lockstep (λ t′ l. Holds s t′ (ws ++ (m ++ l)) × (length l ≡ length css)) (loop (polynomialRow n k s rec) j (length css) t) (polynomials n s ws css)
     unfolding loop polynomials
-    lockstep-polynomials {t} m j [] lm few reads h = lockstep-done {a = t} {b = []} (rw append-nil h, refl)
+    lockstep-polynomials {t} m j [] lm few reads h = lockstep-return {a = t} {b = []} (rw append-nil h, refl)
     lockstep-polynomials m j (cs ∷ css) lm few reads h =
         let here : j + 0 ≡ j = omega arith in
         lockstep-bind (lockstep-polynomial m j cs lm (omega arith) (rw here at (reads 0 (omega arith))) h) (λ t′ a p.
@@ -188,7 +188,7 @@ module _ (n s : ℕ) (nine : s ≤ 9) where
         let e : j + 1 + i ≡ j + suc i = omega arith in rw e (reads (suc i) (omega arith)) in
         lockstep-right
         (lockstep-polynomials (m ++ (a ∷ [])) (j + 1) css (length-append m (a ∷ []) ∙ omega arith) (omega arith) next (rw append-assoc at p))
-        (λ t″ l q. lockstep-done (rw append-assoc at (q .0), ap suc (q .1))))
+        (λ t″ l q. lockstep-return (rw append-assoc at (q .0), ap suc (q .1))))
 
   -- ---- the products and their sum
 
@@ -197,7 +197,7 @@ module _ (n s : ℕ) (nine : s ≤ 9) where
       → ((i : ℕ) → i < j + k → (p + i < length l) × (nth l (p + i) ≡ nth ps i) × (q + i < length l) × (nth l (q + i) ≡ nth qs i)) → Holds s t (l ++ ts)
       → Lockstep (λ t′ m. Holds s t′ (l ++ (ts ++ m)) × (length m ≡ k)) (loop (productRow n s q p (length l)) j k t) (products n s ps qs j k)
   unfolding loop products productRow
-  lockstep-products {t} zero j q p l ts ps qs e few rows h = lockstep-done {a = t} {b = []} (rw append-nil h, refl)
+  lockstep-products {t} zero j q p l ts ps qs e few rows h = lockstep-return {a = t} {b = []} (rw append-nil h, refl)
   lockstep-products (suc k) j q p l ts ps qs e few rows h =
       let z : length (l ++ ts) ≡ length l + j = length-append l ts ∙ omega arith in
       let at = rows j (omega arith) in
@@ -209,7 +209,7 @@ module _ (n s : ℕ) (nine : s ≤ 9) where
       (lockstep-right
       (lockstep-products k (suc j) q p l (ts ++ (a ∷ [])) ps qs (length-append ts (a ∷ []) ∙ omega arith) (omega arith) (λ i m. rows i (omega arith))
       (rw append-assoc at x))
-      (λ t″ m y. lockstep-done (rw append-assoc at (y .0), ap suc (y .1)))))
+      (λ t″ m y. lockstep-return (rw append-assoc at (y .0), ap suc (y .1)))))
 
   -- the sum of the products ts and of c, the last row before them
   module _ (t : List ℕ) (h : ℕ) (l ts : List (List ℕ)) (c : List ℕ) (some : 0 < h) (made : length ts ≡ h) (full : 0 < length l)
@@ -248,7 +248,7 @@ module _ (n s : ℕ) (nine : s ≤ 9) where
     total-same : byShare s (totalShare h (length l) t) ≡ total s (ts ++ (c ∷ [])) h
     unfolding byShare total turn
     total-same =
-        for-same 0 s _ _ (omega arith) (λ i b a m. ap (λ (f : Run ℕ). f >>= (λ v. done (set b i v))) (total-share i (omega arith))) (replicate 9 0)
+        for-same 0 s _ _ (omega arith) (λ i b a m. ap (λ (f : Run ℕ). f >>= (λ v. return (set b i v))) (total-share i (omega arith))) (replicate 9 0)
 
   -- ---- the whole
 

@@ -5,7 +5,7 @@ use mathlib.Core.List.{List, [], _∷_}
 use Prim.Native.Nat.{ℕ, zero, suc, _+_, _-_}
 use lib.ListN.{length, getD, replicate}
 use Rattle.field.specs.Polynomial.{exponents}
-use Rattle.steps.specs.Program.{Run, done, mark, _>>=_, for}
+use Rattle.steps.specs.Program.{Run, return, mark, _>>=_, for}
 use Rattle.steps.specs.Sharing.{share}
 use Rattle.steps.proofs.Program.{bind-bind}
 use Rattle.product.specs.Product.{product, start, row, pair}
@@ -13,13 +13,13 @@ use Rattle.sbox.specs.Sbox.{byShare, nth, constant, square, squares, thi
 
 -- the squares without the sharing that they begin with
 afterFirst : ℕ → ℕ → ℕ → List ℕ → Run (List (List ℕ))
-afterFirst n s zero a = done []
+afterFirst n s zero a = return []
 afterFirst n s (suc k) a = square n s a >>= squares n s k
 
-squares-split : (n s k : ℕ) (a : List ℕ) → squares n s k a ≡ (afterFirst n s k a >>= (λ l. done (a ∷ l)))
+squares-split : (n s k : ℕ) (a : List ℕ) → squares n s k a ≡ (afterFirst n s k a >>= (λ l. return (a ∷ l)))
 unfolding afterFirst squares _>>=_
 squares-split n s zero a = refl
-squares-split n s (suc k) a = sym (bind-bind (square n s a) (squares n s k) (λ l. done (a ∷ l)))
+squares-split n s (suc k) a = sym (bind-bind (square n s a) (squares n s k) (λ l. return (a ∷ l)))
 
 module _ (n s : ℕ) (a b : List ℕ) (same : (i : ℕ) → share a i ≡ share b i) where
   after-same : (k : ℕ) → afterFirst n s k a ≡ afterFirst n s k b

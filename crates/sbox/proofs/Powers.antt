@@ -15,7 +15,7 @@ use Rattle.field.proofs.Power.{pow-one, pow-add, square-add, square-small}
 use Rattle.field.proofs.Inverses.{field-of}
 use Rattle.field.proofs.Polynomial.{class-squares}
 use Rattle.steps.specs.Program.{one}
-use Rattle.steps.specs.Shape.{Shaped, shaped-done}
+use Rattle.steps.specs.Shape.{Shaped, shaped-return}
 use Rattle.steps.specs.Sharing.{share, Sharing}
 use Rattle.steps.proofs.Shape.{shaped-bind, shaped-map, shaped-weaken, shaped-note}
 use Rattle.product.specs.Product.{product, productShape}
@@ -105,7 +105,7 @@ module _ {n : ℕ} (w : Width n) (s x : ℕ) (nine : s ≤ 9) (h : x < 2 ^ n) wh
       → IsPower n s x (getD es 0 0) a → Shaped (Each (IsPower n s x) es) (times k (squareShape s)) (squares n s k a)
   unfolding squares times
   shaped-squares k [] l next g = absurd (omega arith)
-  shaped-squares zero (e ∷ []) l next g = shaped-done (each-cons g each-nil)
+  shaped-squares zero (e ∷ []) l next g = shaped-return (each-cons g each-nil)
   shaped-squares zero (e ∷ f ∷ es) l next g = absurd (omega arith)
   shaped-squares (suc k) (e ∷ []) l next g = absurd (omega arith)
   shaped-squares (suc k) (e ∷ f ∷ es) {a} l next g =
@@ -138,7 +138,7 @@ module _ {n : ℕ} (w : Width n) (s x : ℕ) (nine : s ≤ 9) (h : x < 2 ^ n) wh
       let y = nth-power 0 (omega (arith, L .long-2)) (L .at-2-0) hy in
       let x₈ = nth-power 3 (omega (arith, L .wide, L .long)) (L .at-3) hx in
       shaped-bind (shaped-power 3 8 y x₈) (λ z g. shaped-class 3 l (rw p g))
-  shaped-third (absent p) hx hy = rw p (shaped-done each-nil)
+  shaped-third (absent p) hx hy = rw p (shaped-return each-nil)
 
   -- the powers by the exponents but the first, in order
   pub shaped-powers : {a : List ℕ} → Sharing n s x a → Shaped (Each (IsPower n s x) (laterExponents n)) (powersShape n s) (powers n s a)

@@ -7,10 +7,10 @@ use native.Mathlib.Decide.{decLt}
 use native.Mathlib.Omega.{arith}
 use lib.ListN.{length, take, drop, List·getD-eq-default}
 use lib.Pow.{pow-pos}
-use lib.Seq.{getD-drop, drop-drop, take-take}
+use lib.Seq.{drop-drop, take-take}
 use Rattle.xor.specs.Xor.{_⊕_}
 use Rattle.xor.specs.Sum.{Small}
-use Rattle.xor.proofs.Sum.{sum-of-same}
+use Rattle.xor.proofs.Sum.{small-take, small-drop, sum-of-same}
 use Rattle.field.specs.Mul.{Width, mul}
 use Rattle.field.specs.Polynomial.{exponents, value}
 use Rattle.steps.proofs.Fill.{length-tabulate, getD-tabulate}
@@ -34,19 +34,9 @@ module _ (m k : ℕ) (l : List ℕ) where
   unfolding polynomialsOf
   nth-polynomials i h = getD-tabulate k (λ i. take m (drop (i * m) l)) i [] h
 
--- what is read of the first elements is small where the list is
-take-small : (n m : ℕ) (l : List ℕ) → Small n l → Small n (take m l)
-take-small n zero l h i = pow-pos n
-take-small n (suc m) [] h i = pow-pos n
-take-small n (suc m) (x ∷ l) h zero = h 0
-take-small n (suc m) (x ∷ l) h (suc i) = take-small n m l (λ j. h (suc j)) i
-
-drop-small : (n k : ℕ) (l : List ℕ) → Small n l → Small n (drop k l)
-drop-small n k l h i = rw (getD-drop k l i 0) (h (k + i))
-
 polynomials-small : (n m k : ℕ) (l : List ℕ) → Small n l → (i : ℕ) → Small n (nth (polynomialsOf m k l) i)
 polynomials-small n m k l h i j = elim (decLt i k) [
-  | yes g ↦ rw (nth-polynomials m k l i g) (take-small n m (drop (i * m) l) (drop-small n (i * m) l h) j)
+  | yes g ↦ rw (nth-polynomials m k l i g) (small-take n m (drop (i * m) l) (small-drop n (i * m) l h) j)
   | no g ↦ let none : nth (polynomialsOf m k l) i ≡ [] =
       List·getD-eq-default (polynomialsOf m k l) [] {n = i} (omega (arith, length-polynomials m k l)) in
       rw none (pow-pos n)
@@ -64,7 +54,7 @@ unfolding basisIn solutionIn
 accepted-record n r a =
     let e = length (exponents n) in
     let k = basisSize n in
-    let after : Small n (drop (6 + k * e) r) = λ i. rw (← drop-drop (k * e) 6 r) (drop-small n (k * e) (drop 6 r) (a .elements) i) in
+    let after : Small n (drop (6 + k * e) r) = λ i. rw (← drop-drop (k * e) 6 r) (small-drop n (k * e) (drop 6 r) (a .elements) i) in
     let counted : length (polynomialsOf e k (drop 6 r)) ≡ k = length-polynomials e k (drop 6 r) in
     let further : length (polynomialsOf e (suc k) (drop (6 + k * e) r)) ≡ suc k = length-polynomials e (suc k) (drop (6 + k * e) r) in
     record {

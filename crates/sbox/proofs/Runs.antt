@@ -1,21 +1,21 @@
 -- What the masked S-box does on a tape of elements of n bits, for an accepted record.
-use mathlib.Core.Path.{_≡_, ap, _∙_}
+use mathlib.Core.Path.{_≡_, _∙_}
 use mathlib.Core.List.{List}
 use Prim.Native.Nat.{ℕ, _≤_, _<_}
-use lib.ListN.{length, replicate, drop}
+use lib.ListN.{length, replicate}
 use Rattle.xor.specs.Sum.{Small}
-use Rattle.steps.specs.Program.{result, trace, draws, products, rest}
+use Rattle.steps.specs.Program.{result, trace, draws, products}
 use Rattle.steps.specs.Choices.{Fits}
 use Rattle.steps.specs.Shape.{bitsOf, Shaped}
 use Rattle.steps.specs.Sharing.{Sharing}
 use Rattle.steps.proofs.Choices.{fits-small}
-use Rattle.steps.proofs.Shape.{shaped-result, shaped-steps, shaped-draws, shaped-products, shaped-rest}
+use Rattle.steps.proofs.Shape.{shaped-result, shaped-steps, shaped-draws, shaped-products}
 use Rattle.sbox.specs.Sbox.{sbox}
 use Rattle.sbox.specs.Form.{formOf, basisSize, AcceptedForm}
 use Rattle.sbox.specs.Shape.{sboxShape}
 use Rattle.sbox.specs.Figures.{sboxProducts, sboxDraws, sboxSteps}
 use Rattle.sbox.proofs.Shape.{shaped-sbox}
-use Rattle.sbox.proofs.Counts.{sbox-steps, sbox-draws, sbox-products, sbox-bits}
+use Rattle.sbox.proofs.Counts.{sbox-steps, sbox-products, sbox-bits}
 
 module _ {n : ℕ} {qs ps : List (List ℕ)} (accepted : AcceptedForm n qs ps) (s x : ℕ) (a tape : List ℕ) (some : 0 < s) (nine : s ≤ 9)
     (sharing : Sharing n s x a) (elements : Small n tape) where
@@ -41,7 +41,3 @@ module _ {n : ℕ} {qs ps : List (List ℕ)} (accepted : AcceptedForm n qs ps) (
 
   pub products-length : length (products 0 (sbox n s qs ps a) tape) ≡ sboxProducts n
   products-length = shaped-products shaped 0 tape fits ∙ sbox-products n s (accepted .width)
-
-  -- and this is left of the tape
-  pub rest-is : rest (sbox n s qs ps a) tape ≡ drop (sboxDraws n s) tape
-  rest-is = shaped-rest shaped tape fits ∙ ap (λ (k : ℕ). drop k tape) (sbox-draws n s (accepted .width))

@@ -18,7 +18,7 @@ use Rattle.field.proofs.Ring.{mul-small, mul-one}
 use Rattle.field.proofs.Power.{pow-zero}
 use Rattle.field.proofs.Inverses.{field-of}
 use Rattle.steps.specs.Program.{one, _>>=_, note}
-use Rattle.steps.specs.Shape.{stepOf, Shaped, shaped-done, shaped-step}
+use Rattle.steps.specs.Shape.{stepOf, Shaped, shaped-return, shaped-step}
 use Rattle.steps.specs.Sharing.{share, Sharing}
 use Rattle.steps.proofs.Shape.{shaped-bind, shaped-map, shaped-weaken, shaped-note}
 use Rattle.steps.proofs.Sharing.{forSum, for-sum-end, for-sum-same, join-for}
@@ -111,13 +111,13 @@ module _ {n : ℕ} (w : Width n) (s x : ℕ) (some : 0 < s) (nine : s ≤ 9) whe
       (λ v g. mul-small ring (getD cs (r + 1) 0) v (hc (r + 1)))
       (adds-share (each-nth hw 0 r (omega arith))))))
       (λ i. shaped-add-up e (constant i (getD cs 0 0)) (λ r. mul n (getD cs (r + 1) 0) (share (nth ws r) i)) (λ r. termShape i)
-      (λ r u. shaped-step (shaped-step (shaped-done refl)))))
+      (λ r u. shaped-step (shaped-step (shaped-return refl)))))
       (λ c p. p .1))
 
   shaped-polynomials : {ws : List (List ℕ)} (css : List (List ℕ)) → SmallAll n css → Each (IsPower n s x) (laterExponents n) ws
       → Shaped (λ l. (k : ℕ) → Sharing n s (value n (nth css k) x) (nth l k)) (times (length css) (polynomialShape n s)) (polynomials n s ws css)
   unfolding polynomials times value combination
-  shaped-polynomials [] hc hw = shaped-done (λ k. record { small = λ i. pow-pos n; past = λ i g. refl; joins = join-nil })
+  shaped-polynomials [] hc hw = shaped-return (λ k. record { small = λ i. pow-pos n; past = λ i g. refl; joins = join-nil })
   shaped-polynomials (cs ∷ css) hc hw =
       shaped-bind (shaped-polynomial cs (hc 0) hw) λ a ha.
       shaped-map (λ l. a ∷ l) (shaped-polynomials css (λ k. hc (suc k)) hw) (λ l hl. both a l ha hl)
@@ -130,7 +130,7 @@ module _ {n : ℕ} (w : Width n) (s x : ℕ) (some : 0 < s) (nine : s ≤ 9) whe
   shaped-products : (ps qs : List (List ℕ)) (v u : ℕ → ℕ) → ((i : ℕ) → Sharing n s (v i) (nth ps i)) → ((i : ℕ) → Sharing n s (u i) (nth qs i))
       → (j k : ℕ) → Shaped (Each (Sharing n s) (upFrom (λ i. mul n (v i) (u i)) j k)) (times k (productShape n s)) (products n s ps qs j k)
   unfolding products times upFrom
-  shaped-products ps qs v u hp hq j zero = shaped-done each-nil
+  shaped-products ps qs v u hp hq j zero = shaped-return each-nil
   shaped-products ps qs v u hp hq j (suc k) =
       shaped-bind (shaped-product (field-of n w .ring) s (v j) (u j) (nth ps j) (nth qs j) nine (hp j) (hq j)) λ a ha.
       shaped-map (λ l. a ∷ l) (shaped-products ps qs v u hp hq (suc j) k) (λ l hl. each-cons (ha .1) hl)

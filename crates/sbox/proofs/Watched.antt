@@ -1,23 +1,21 @@
 -- A WATCH WRITES WHAT THE EXPERIMENT SHOWS. For the shares that the secret x and the masks give, Watch S-box writes the watched values of the experiment
 -- whose tape is the masks followed by the random elements.
 use mathlib.Core.Path.{_≡_, sym, ap}
-use mathlib.Core.List.{List, _∷_, _++_}
+use mathlib.Core.List.{List, _++_}
 use Prim.Native.Nat.{ℕ, _-_}
 use lib.ListN.{length}
-use Rattle.xor.specs.Xor.{_⊕_}
-use Rattle.xor.specs.Sum.{join}
 use Rattle.steps.specs.Program.{trace}
 use Rattle.steps.specs.Watch.{watched}
 use Rattle.steps.specs.Tape.{elements}
 use Rattle.sbox.specs.Polynomials.{basisIn, solutionIn}
-use Rattle.sbox.specs.Experiment.{experiment}
+use Rattle.sbox.specs.Experiment.{experiment, settled}
 use Rattle.decomposition.specs.Record.{widthOf}
 use Rattle.sbox.specs.Operations.{callProgram, watchOutput}
 use Rattle.sbox.proofs.Secrecy.{experiment-steps}
 
 pub watch-shows : (r : List ℕ) (s x : ℕ) (masks random list : List ℕ) → length masks ≡ s - 1
     → let n = widthOf r in
-    watchOutput r s (x ⊕ join masks ∷ masks) random list
+    watchOutput r s (settled x masks) random list
     ≡ watched list (trace (experiment n s (basisIn n r) (solutionIn n r) x) (masks ++ elements n random))
 unfolding watchOutput callProgram
 watch-shows r s x masks random list e =

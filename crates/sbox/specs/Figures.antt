@@ -1,7 +1,9 @@
 -- The figures of the masked S-box at width n, of s shares: how many masked products, random elements and steps there are.
 use mathlib.Core.Bool.{cond}
+use mathlib.Core.List.{List, [], _∷_}
 use Prim.Native.Nat.{ℕ, _+_, _-_, _*_, _/_}
 use lib.Dec.{eqb}
+use Rattle.steps.specs.Tape.{bytesFor}
 
 -- masked products
 unfoldable pub sboxProducts : ℕ → ℕ
@@ -14,3 +16,7 @@ sboxDraws n s = cond (eqb n 4) (s * (s - 1)) (5 * (s * (s - 1)) / 2)
 -- steps
 unfoldable pub sboxSteps : ℕ → ℕ → ℕ
 sboxSteps n s = cond (eqb n 4) (57 * s + 7 * (s * (s - 1))) (275 * s + 35 * (s * (s - 1)) / 2)
+
+-- what a call or a watch hands back: masked products, random bytes, steps
+unfoldable pub figures : ℕ → ℕ → List ℕ
+figures n s = sboxProducts n ∷ bytesFor n (sboxDraws n s) ∷ sboxSteps n s ∷ []

@@ -8,3 +8,5 @@ pub mod Table
 pub mod TableSteps
 pub mod TableCounts
 pub mod Operations
+pub mod Alike
+pub mod Chain

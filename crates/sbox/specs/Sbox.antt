@@ -7,7 +7,7 @@ use lib.ListN.{length, getD, set, replicate}
 use Rattle.xor.specs.Xor.{_⊕_}
 use Rattle.field.specs.Mul.{mul}
 use Rattle.field.specs.Polynomial.{exponents}
-use Rattle.steps.specs.Program.{Run, done, one, _>>=_, note, for}
+use Rattle.steps.specs.Program.{Run, return, one, _>>=_, note, for}
 use Rattle.steps.specs.Sharing.{share}
 use Rattle.product.specs.Product.{product}
 
@@ -15,7 +15,7 @@ use Rattle.product.specs.Product.{product}
 unfoldable pub byShare : ℕ → (ℕ → Run ℕ) → Run (List ℕ)
 byShare s f = for 0 s (λ i c. do
   v ← f i
-  done (set c i v)) (replicate 9 0)
+  return (set c i v)) (replicate 9 0)
 
 -- sharing number k of a list
 abbrev pub nth : List (List ℕ) → ℕ → List ℕ
@@ -29,18 +29,18 @@ square n s a = byShare s (λ i. note (one i) (mul n (share a i) (share a i)))
 
 -- a sharing and k squares, each of the one before
 unfoldable pub squares : ℕ → ℕ → ℕ → List ℕ → Run (List (List ℕ))
-squares n s zero a = done (a ∷ [])
+squares n s zero a = return (a ∷ [])
 squares n s (suc k) a = do
   b ← square n s a
   l ← squares n s k b
-  done (a ∷ l)
+  return (a ∷ l)
 
 -- at width 6, the class of x ^ 11 = x ^ 3 · x ^ 8
 unfoldable pub thirdClass : Bool → ℕ → ℕ → List (List ℕ) → List (List ℕ) → Run (List (List ℕ))
 thirdClass true n s xs ys = do
   z ← product n s (nth ys 0) (nth xs 3)
   squares n s (n - 1) z
-thirdClass false n s xs ys = done []
+thirdClass false n s xs ys = return []
 
 -- the powers of x by the exponents but the first, in the list's order: the class of x, of x ^ 3 = x · x ^ 2 and, at width 6, of x ^ 11
 unfoldable pub powers : ℕ → ℕ → List ℕ → Run (List (List ℕ))
@@ -49,7 +49,7 @@ powers n s x = do
   y ← product n s (nth xs 0) (nth xs 1)
   ys ← squares n s (n - 1) y
   zs ← thirdClass (eqb n 6) n s xs ys
-  done (xs ++ (ys ++ zs))
+  return (xs ++ (ys ++ zs))
 
 -- ---- polynomials of x
 
@@ -70,21 +70,21 @@ polynomial n s ws cs = byShare s (λ i. for 0 (length (exponents n) - 1) (term n
 
 -- several polynomials, one after the other
 unfoldable pub polynomials : ℕ → ℕ → List (List ℕ) → List (List ℕ) → Run (List (List ℕ))
-polynomials n s ws [] = done []
+polynomials n s ws [] = return []
 polynomials n s ws (cs ∷ css) = do
   a ← polynomial n s ws cs
   l ← polynomials n s ws css
-  done (a ∷ l)
+  return (a ∷ l)
 
 -- ---- the form p1 · q1 + .. + p(t-1) · q(t-1) + pt
 
 -- the masked products of the first k of the ps and the qs, from number j on
 unfoldable pub products : ℕ → ℕ → List (List ℕ) → List (List ℕ) → ℕ → ℕ → Run (List (List ℕ))
-products n s ps qs j zero = done []
+products n s ps qs j zero = return []
 products n s ps qs j (suc k) = do
   a ← product n s (nth ps j) (nth qs j)
   l ← products n s ps qs (suc j) k
-  done (a ∷ l)
+  return (a ∷ l)
 
 -- the first of k + 1 sharings, plus the others in order
 unfoldable pub total : ℕ → List (List ℕ) → ℕ → Run (List ℕ)

@@ -1,4 +1,4 @@
--- The table that the code of the S-box works on: sharings of nine places each, row after row, in one list.
+-- For inner contracts only. The table that the code of the S-box works on: sharings of nine places each, row after row, in one list.
 use mathlib.Core.List.{List}
 use Prim.Native.Nat.{ℕ, zero, suc, _+_, _*_}
 use lib.ListN.{getD, drop, set}

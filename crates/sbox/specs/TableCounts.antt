@@ -1,4 +1,4 @@
--- What the parts of the S-box take, as the code's loops count it: random elements and steps. Only the proofs of the code use these counts.
+-- For inner contracts only. What the parts of the S-box take, as the code's loops count it: random elements and steps.
 use mathlib.Core.Bool.{cond}
 use Prim.Native.Nat.{ℕ, _+_, _-_, _*_}
 use lib.Dec.{eqb}

@@ -1,5 +1,5 @@
--- The steps of Sbox.antt as the code lays them out in its table: the sharings are rows, in the order in which they are made, first the k powers, then
--- the h polynomials of the basis and the h + 1 of the p, then the h products. Only the proofs of the code use these programs.
+-- For inner contracts only. The steps of Sbox.antt as the code lays them out in its table: the sharings are rows, in the order in which they are made,
+-- first the k powers, then the h polynomials of the basis and the h + 1 of the p, then the h products.
 use mathlib.Core.Bool.{Bool, true, false, cond}
 use mathlib.Core.List.{List}
 use Prim.Native.Nat.{ℕ, _+_, _-_, _*_}
@@ -8,7 +8,7 @@ use lib.ListN.{getD, replicate}
 use Rattle.xor.specs.Xor.{_⊕_}
 use Rattle.field.specs.Mul.{mul}
 use Rattle.field.specs.Polynomial.{exponents}
-use Rattle.steps.specs.Program.{Run, done, one, _>>=_, note, for}
+use Rattle.steps.specs.Program.{Run, return, one, _>>=_, note, for}
 use Rattle.product.specs.Product.{product}
 use Rattle.sbox.specs.Sbox.{byShare, constant}
 use Rattle.sbox.specs.Table.{cell, setCell, row, put}
@@ -19,7 +19,7 @@ use Rattle.sbox.specs.Table.{cell, setCell, row, put}
 unfoldable pub squareShare : ℕ → ℕ → ℕ → List ℕ → Run (List ℕ)
 squareShare n r i t = do
   v ← note (one i) (mul n (cell t r i) (cell t r i))
-  done (setCell t (r + 1) i v)
+  return (setCell t (r + 1) i v)
 
 -- the squares of all s shares of row r
 unfoldable pub squareRow : ℕ → ℕ → ℕ → List ℕ → Run (List ℕ)
@@ -29,7 +29,7 @@ squareRow n s r t = for 0 s (squareShare n r) t
 unfoldable pub multiplyRows : ℕ → ℕ → ℕ → ℕ → ℕ → List ℕ → Run (List ℕ)
 multiplyRows n s x y z t = do
   c ← product n s (row t x) (row t y)
-  done (put s t z c)
+  return (put s t z c)
 
 -- the exponent of the power in row r
 abbrev pub exponentOf : ℕ → ℕ → ℕ
@@ -48,7 +48,7 @@ powerClass n s z l t = do
 -- at width 6, the class of x ^ 11
 unfoldable pub thirdRows : Bool → ℕ → ℕ → List ℕ → Run (List ℕ)
 thirdRows true n s t = powerClass n s 12 17 t
-thirdRows false n s t = done t
+thirdRows false n s t = return t
 
 -- the powers of row 0
 unfoldable pub powerRows : ℕ → ℕ → List ℕ → Run (List ℕ)
@@ -69,7 +69,7 @@ termAt n rec p i t r u = do
 unfoldable pub polynomialShare : ℕ → ℕ → List ℕ → ℕ → ℕ → ℕ → List ℕ → Run (List ℕ)
 polynomialShare n k rec p z i t = do
   u ← for 0 k (termAt n rec p i t) (constant i (getD rec p 0))
-  done (setCell t z i u)
+  return (setCell t z i u)
 
 -- polynomial j of the record goes to row k + j
 unfoldable pub polynomialRow : ℕ → ℕ → ℕ → List ℕ → ℕ → List ℕ → Run (List ℕ)

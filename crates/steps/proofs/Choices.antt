@@ -1,20 +1,20 @@
--- The laws of sums and tallies.
+-- The laws of sums, tapes and tallies.
 use mathlib.Core.Path.{_≡_, refl, sym, ap, ap₂, _∙_, subst}
 use mathlib.Core.Logic.{_⊎_, inl, inr}
 use mathlib.Core.List.{List, [], _∷_, _++_}
 use mathlib.Core.Bool.{Bool, true, false, cond, _&&_}
-use Prim.Native.Nat.{ℕ, zero, suc, _+_, _*_, _/_, _%_, _^_, _<_}
+use Prim.Native.Nat.{ℕ, zero, suc, _+_, _*_, _/_, _%_, _^_, _≤_, _<_}
 use native.Mathlib.Nat.{zero-mul, zero-lt-suc, le-refl, le-suc, le-trans, suc-mul, add-assoc, add-comm, pow-suc, div-lt-iff-lt-mul, add-zero}
 use native.Mathlib.Omega.{arith}
-use lib.Pow.{pow-add}
+use lib.Pow.{pow-add, pow-pos}
 use lib.Dec.{T, eqb, eqb→eq, eqb-refl}
-use lib.ListN.{length, replicate, drop}
+use lib.ListN.{length, replicate, take, drop, length-append, length-replicate, length-drop, take-append-drop}
+use lib.Seq.{length-take-le, take-at, drop-at}
 use Rattle.xor.specs.Xor.{_⊕_}
 use Rattle.xor.specs.Sum.{Small}
 use Rattle.xor.proofs.Xor.{bit-cases, ⊕-zero, zero-⊕, ⊕-self, ⊕-half, ⊕-odd}
 use Rattle.xor.proofs.Sum.{small-tail}
 use Rattle.steps.specs.Program.{first, later}
-use Rattle.steps.proofs.Program.{drop-later}
 use Rattle.steps.specs.Choices.{Fits, sum, tally, totalBits, equal}
 
 -- ---- sums
@@ -85,10 +85,73 @@ fits-small n zero tape h = tt
 fits-small n (suc k) [] h = (h 0, fits-small n k [] h)
 fits-small n (suc k) (r ∷ tape) h = (h 0, fits-small n k tape (small-tail n r tape h))
 
--- a tape that fits some draws and then others
-pub fits-append : (bits more tape : List ℕ) → Fits bits tape → Fits more (drop (length bits) tape) → Fits (bits ++ more) tape
-fits-append [] more tape h k = k
-fits-append (b ∷ bits) more tape h k = (h .0, fits-append bits more (later tape) (h .1) (rw (← drop-later (length bits) tape) k))
+-- and a tape of at most k elements that fits k draws of n bits has elements of n bits
+pub small-fits : (n k : ℕ) (tape : List ℕ) → length tape ≤ k → Fits (replicate k n) tape → Small n tape
+unfolding first later
+small-fits n k [] l h i = pow-pos n
+small-fits n zero (r ∷ tape) l h i = absurd (omega arith)
+small-fits n (suc k) (r ∷ tape) l h zero = h .0
+small-fits n (suc k) (r ∷ tape) l h (suc i) = small-fits n k tape (omega arith) (h .1) i
+
+-- an element for each of some draws, and then a tape for others: it fits all of them if either part fits its draws
+pub fits-both : (bits more l m : List ℕ) → length l ≡ length bits → Fits bits l → Fits more m → Fits (bits ++ more) (l ++ m)
+unfolding first later
+fits-both [] more [] m e h k = k
+fits-both [] more (r ∷ l) m e h k = absurd (omega arith)
+fits-both (b ∷ bits) more [] m e h k = absurd (omega arith)
+fits-both (b ∷ bits) more (r ∷ l) m e h k = (h .0, fits-both bits more l m (omega arith) (h .1) k)
+
+-- and only then
+pub fits-parts : (bits more l m : List ℕ) → length l ≡ length bits → Fits (bits ++ more) (l ++ m) → Fits bits l × Fits more m
+unfolding first later
+fits-parts [] more [] m e h = (tt, h)
+fits-parts [] more (r ∷ l) m e h = absurd (omega arith)
+fits-parts (b ∷ bits) more [] m e h = absurd (omega arith)
+fits-parts (b ∷ bits) more (r ∷ l) m e h =
+    let rest = fits-parts bits more l m (omega arith) (h .1) in ((h .0, rest .0), rest .1)
+
+-- ---- tapes that begin with k elements of n bits
+
+-- as many elements as there are draws, which fit them: k of n bits, and then those of other draws
+pub tape-joined : (n k : ℕ) (more l m : List ℕ) → length l ≡ k → Small n l → (length m ≡ length more) × Fits more m
+    → (length (l ++ m) ≡ length (replicate k n ++ more)) × Fits (replicate k n ++ more) (l ++ m)
+tape-joined n k more l m e small h = (
+  omega (arith, length-append l m, length-append (replicate k n) more, length-replicate k n, h .0),
+  fits-both (replicate k n) more l m (e ∙ sym (length-replicate k n)) (fits-small n k l small) (h .1),
+)
+
+-- the two parts of such a tape
+pub record Parted (n k : ℕ) (more tape : List ℕ) : Type 0 where
+  pub front : List ℕ
+  pub rest : List ℕ
+  pub whole : tape ≡ front ++ rest
+  pub front-length : length front ≡ k
+  pub front-small : Small n front
+  pub rest-length : length rest ≡ length more
+  pub rest-fits : Fits more rest
+
+pub tape-parted : (n k : ℕ) (more tape : List ℕ) → length tape ≡ length (replicate k n ++ more) → Fits (replicate k n ++ more) tape
+    → Parted n k more tape
+tape-parted n k more tape e h =
+    let total : length tape ≡ k + length more = omega (arith, length-append (replicate k n) more, length-replicate k n) in
+    let long : length (take k tape) ≡ k = length-take-le k tape (omega arith) in
+    let whole : tape ≡ take k tape ++ drop k tape = sym (take-append-drop k tape) in
+    let parts = fits-parts (replicate k n) more (take k tape) (drop k tape) (long ∙ sym (length-replicate k n))
+    (subst (λ (t : List ℕ). Fits (replicate k n ++ more) t) whole h) in
+    record {
+      front = take k tape;
+      rest = drop k tape;
+      whole = whole;
+      front-length = long;
+      front-small = small-fits n k (take k tape) (omega arith) (parts .0);
+      rest-length = length-drop k tape ∙ omega arith;
+      rest-fits = parts .1;
+    }
+
+-- a list has one front of k elements, and one rest
+pub parts-once : (k : ℕ) (l l′ t t′ : List ℕ) → length l ≡ k → length l′ ≡ k → l ++ t ≡ l′ ++ t′ → (l ≡ l′) × (t ≡ t′)
+parts-once k l l′ t t′ e e′ same =
+    (sym (take-at l t k e) ∙ ap (take k) same ∙ take-at l′ t′ k e′, sym (drop-at l t k e) ∙ ap (drop k) same ∙ drop-at l′ t′ k e′)
 
 -- ---- tallies
 

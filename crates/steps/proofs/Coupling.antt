@@ -12,8 +12,8 @@ use Rattle.xor.proofs.Xor.{⊕-zero}
 use Rattle.steps.specs.Program.{one, two, Run, _>>=_, loop, for, first, later, Entry, trace}
 use Rattle.steps.specs.Watch.{touches}
 use Rattle.steps.specs.Choices.{tally}
-use Rattle.steps.specs.Shape.{Shape, bitsOf, Shaped, shaped-done, shaped-step, shaped-draw, shaped-mark, Alone, alone-nil, alone-step}
-use Rattle.steps.specs.Coupling.{Coupled, coupled-done, coupled-step, coupled-draw, coupled-mark}
+use Rattle.steps.specs.Shape.{Shape, bitsOf, Shaped, shaped-return, shaped-step, shaped-draw, shaped-mark, Alone, alone-nil, alone-step}
+use Rattle.steps.specs.Coupling.{Coupled, coupled-return, coupled-step, coupled-draw, coupled-mark}
 use Rattle.steps.proofs.Tests.{nor-left, nor-right, apart}
 use Rattle.steps.proofs.Choices.{sum-same, sum-shift, tally-same}
 use Rattle.steps.proofs.Watch.{unless, visible, unless-same}
@@ -24,7 +24,7 @@ use Rattle.steps.proofs.Shape.{shaped-both}
 pub coupled-bind : {A B C D : Type 0} {u : ℕ} {R : A → B → Type 0} {S : C → D → Type 0} {m : Run A} {m′ : Run B} {f : A → Run C} {f′ : B → Run D}
     → Coupled u R m m′ → ((a : A) (b : B) → R a b → Coupled u S (f a) (f′ b)) → Coupled u S (m >>= f) (m′ >>= f′)
 unfolding _>>=_
-coupled-bind (coupled-done {a} {b} h) g = g a b h
+coupled-bind (coupled-return {a} {b} h) g = g a b h
 coupled-bind (coupled-step e h) g = coupled-step e (coupled-bind h g)
 coupled-bind (coupled-draw δ l h) g = coupled-draw δ l (λ r k. coupled-bind (h r k) g)
 coupled-bind (coupled-mark h) g = coupled-mark (coupled-bind h g)
@@ -32,7 +32,7 @@ coupled-bind (coupled-mark h) g = coupled-mark (coupled-bind h g)
 -- a weaker thing may be said of the results
 pub coupled-weaken : {A B : Type 0} {u : ℕ} {R S : A → B → Type 0} {m : Run A} {m′ : Run B}
     → Coupled u R m m′ → ((a : A) (b : B) → R a b → S a b) → Coupled u S m m′
-coupled-weaken (coupled-done {a} {b} h) g = coupled-done (g a b h)
+coupled-weaken (coupled-return {a} {b} h) g = coupled-return (g a b h)
 coupled-weaken (coupled-step e h) g = coupled-step e (coupled-weaken h g)
 coupled-weaken (coupled-draw δ l h) g = coupled-draw δ l (λ r k. coupled-weaken (h r k) g)
 coupled-weaken (coupled-mark h) g = coupled-mark (coupled-weaken h g)
@@ -42,7 +42,7 @@ module _ {A B : Type 0} (u : ℕ) (R : ℕ → A → B → Type 0) {f : ℕ → 
   coupled-loop : (i k s : ℕ) → i + k ≡ s → ((j : ℕ) (a : A) (b : B) → i ≤ j → j < s → R j a b → Coupled u (R (j + 1)) (f j a) (f′ j b))
       → (a : A) (b : B) → R i a b → Coupled u (R s) (loop f i k a) (loop f′ i k b)
   unfolding loop
-  coupled-loop i zero s e h a b p = let l : i ≡ s = omega arith in coupled-done (subst (λ (x : ℕ). R x a b) l p)
+  coupled-loop i zero s e h a b p = let l : i ≡ s = omega arith in coupled-return (subst (λ (x : ℕ). R x a b) l p)
   coupled-loop i (suc k) s e h a b p =
       coupled-bind (h i a b (omega arith) (omega arith) p) (λ c d q. coupled-loop (i + 1) k s (omega arith) (λ j x y l. h j x y (omega arith)) c d q)
 
@@ -54,7 +54,7 @@ module _ {A B : Type 0} (u : ℕ) (R : ℕ → A → B → Type 0) {f : ℕ → 
 -- a program that is the same on both sides
 pub coupled-self : {A : Type 0} (u : ℕ) {R : A → A → Type 0} {P : A → Type 0} {σ : Shape} {m : Run A}
     → Shaped P σ m → ((a : A) → P a → R a a) → Coupled u R m m
-coupled-self u (shaped-done {a} p) k = coupled-done (k a p)
+coupled-self u (shaped-return {a} p) k = coupled-return (k a p)
 coupled-self u (shaped-step h) k = coupled-step (λ t. refl) (coupled-self u h k)
 coupled-self u {R} (shaped-draw {k = f} h) k =
     coupled-draw 0 (pow-pos _) (λ r l. subst (λ (x : ℕ). Coupled u R (f r) (f x)) (sym (⊕-zero r)) (coupled-self u (h r l) k))
@@ -77,7 +77,7 @@ seen-two {u} {i} {j} h t = h (apart u i (nor-left (eqb u i) (eqb u j) t)) (apart
 -- if that share is u, it does not matter what they record
 coupled-hidden : {A B : Type 0} {u : ℕ} {R : A → B → Type 0} {P : A → Type 0} {Q : B → Type 0} {σ : Shape} {m : Run A} {m′ : Run B}
     → Alone u σ → Shaped P σ m → Shaped Q σ m′ → ((a : A) (b : B) → P a → Q b → R a b) → Coupled u R m m′
-coupled-hidden alone-nil (shaped-done {a} p) (shaped-done {a = b} q) k = coupled-done (k a b p q)
+coupled-hidden alone-nil (shaped-return {a} p) (shaped-return {a = b} q) k = coupled-return (k a b p q)
 coupled-hidden {u} (alone-step h) (shaped-step s) (shaped-step s′) k =
     coupled-step (seen-one {i = u} (λ f. absurd (f refl))) (coupled-hidden h s s′ k)
 
@@ -99,7 +99,7 @@ pub coupled-tally : {A B : Type 0} {u : ℕ} {R : A → B → Type 0} {P : A →
     → Coupled u R m m′ → Shaped P σ m → (Q : List Entry → Bool)
     → tally (bitsOf σ) (λ tape. Q (visible u (trace m tape))) ≡ tally (bitsOf σ) (λ tape. Q (visible u (trace m′ tape)))
 unfolding tally trace visible bitsOf first later
-coupled-tally (coupled-done h) (shaped-done p) Q = refl
+coupled-tally (coupled-return h) (shaped-return p) Q = refl
 coupled-tally {u} (coupled-step {t} {v} {w} {m} {m′} e h) (shaped-step {σ} s) Q =
     coupled-tally h s (λ l. Q (record { touch = t; value = unless (touches u t) v } ∷ l))
     ∙ tally-same (bitsOf σ) _ _

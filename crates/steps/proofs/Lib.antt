@@ -1,4 +1,5 @@
 pub mod Tests
+pub mod Fill
 pub mod Program
 pub mod Choices
 pub mod Shape
@@ -13,5 +14,4 @@ pub mod Tape
 pub mod Machine
 pub mod Parts
 pub mod Loop
-pub mod Fill
 pub mod Operations

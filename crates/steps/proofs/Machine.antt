@@ -6,7 +6,7 @@ use native.Mathlib.Numerals.{add-one}
 use native.Mathlib.Omega.{arith}
 use lib.ListN.{length, getD, drop, length-map}
 use Rattle.steps.specs.declared.counts.Counts.{Counts}
-use Rattle.steps.specs.Program.{Run, done, step, draw, mark, _>>=_, loop, for, first, later, result, trace, draws, products}
+use Rattle.steps.specs.Program.{Run, return, step, draw, mark, _>>=_, loop, for, first, later, result, trace, draws, products}
 use Rattle.steps.specs.Watch.{values, watched}
 use Rattle.steps.specs.Recorder.{seen, observed, AllBelow}
 use Rattle.steps.specs.Machine.{oneProduct, oneDraw, oneStep, zeroCounts, Ended, ended, exec, onward, Went, Whole}
@@ -17,7 +17,7 @@ module _ (tape watch : List ℕ) where
   pub exec-bind : {A B : Type 0} (m : Run A) (f : A → Run B) (n : Counts) (vs : List ℕ)
       → exec tape watch (m >>= f) n vs ≡ onward tape watch (exec tape watch m n vs) f
   unfolding exec _>>=_
-  exec-bind (done a) f n vs = refl
+  exec-bind (return a) f n vs = refl
   exec-bind (step t v m) f n vs = exec-bind m f (oneStep n) (seen watch (n .steps) v vs)
   exec-bind (draw b g) f n vs = exec-bind (g (getD tape (n .random) 0)) f (oneDraw n) vs
   exec-bind (mark m) f n vs = exec-bind m f (oneProduct n) vs
@@ -30,7 +30,7 @@ module _ (tape watch : List ℕ) where
   then-runs m f n vs p q = exec-bind m f n vs ∙ rw p q
 
   -- a program that only ends
-  pub done-runs : {A : Type 0} {x y : A} (n : Counts) (vs : List ℕ) → x ≡ y → exec tape watch (done y) n vs ≡ ended x n vs
+  pub done-runs : {A : Type 0} {x y : A} (n : Counts) (vs : List ℕ) → x ≡ y → exec tape watch (return y) n vs ≡ ended x n vs
   unfolding exec
   done-runs n vs e = rw e
 
@@ -85,7 +85,7 @@ module _ (tape watch : List ℕ) where
       })
       (observed watch (n .steps) (values (trace m (drop (n .random) tape))) vs)
   unfolding exec result trace draws products observed
-  exec-whole (done a) n vs =
+  exec-whole (return a) n vs =
       let p : n .products + 0 ≡ n .products = omega arith in
       let d : n .random + 0 ≡ n .random = omega arith in
       let k : n .steps + 0 ≡ n .steps = omega arith in

@@ -1,12 +1,11 @@
--- The laws of Split and Join: the bytes of each share, and that joining what Split writes gives the value.
-use mathlib.Core.Path.{_≡_, refl, ap, ap₂, _∙_}
+-- The laws of Split and Join: the bytes of each share, that joining what Split writes gives the value, and the calls that they accept.
+use mathlib.Core.Path.{_≡_, refl, sym, ap, ap₂, _∙_}
 use mathlib.Core.Bool.{true}
 use mathlib.Core.List.{List, [], _∷_, _++_}
 use Prim.Native.Nat.{ℕ, zero, suc, _+_, _-_, _*_, _≤_, _<_}
 use native.Mathlib.Nat.{suc-mul, add-assoc, not-suc-le-zero, mul-le-mul}
-use native.Mathlib.Numerals.{add-one}
 use native.Mathlib.Omega.{arith}
-use borrow.Author.Tests.{eqb-true, eq-eqb}
+use borrow.Author.Tests.{eqb-true, eq-eqb, le-leb}
 use lib.ListN.{length, getD, length-append, List·getD-append}
 use lib.Seq.{getD-append-add}
 use Rattle.xor.specs.Xor.{_⊕_}
@@ -66,13 +65,6 @@ module _ (s : ℕ) (value masks : List ℕ) where
       List·getD-append first _ 0 j (omega (arith, length-first))
       ∙ getD-tabulate (length value) (maskedByte value (s - 1) masks) j 0 h
 
-  -- byte j of share i + 1 is that of mask i
-  pub split-other : (i j : ℕ) → getD (splitShares s value masks) ((i + 1) * length value + j) 0 ≡ getD masks (i * length value + j) 0
-  unfolding splitShares first
-  split-other i j =
-      let e : (i + 1) * length value + j ≡ length first + (i * length value + j) = rw (add-one i) (omega (arith, length-first, suc-mul i (length value))) in
-      rw e (getD-append-add first masks (i * length value + j) 0)
-
   pub length-split : 0 < s → length masks ≡ (s - 1) * length value → length (splitShares s value masks) ≡ s * length value
   unfolding splitShares first
   length-split h e = omega (arith, length-append first masks, length-first, times-turn s (length value) h)
@@ -116,3 +108,52 @@ join-takes-split s value masks out e =
     let h = split-succeeds (length value) s (length masks) out e in
     let total = length-split s value masks (one-to-range 9 s (h .0) .0) (h .2) in
     rw (h .0, h .1, eq-eqb (length (splitShares s value masks)) (s * length value) total)
+
+-- ---- arguments of the right lengths are accepted
+
+pub in-range : (most x : ℕ) → 0 < x → x ≤ most → oneTo most x ≡ true
+unfolding oneTo
+in-range most x some few = rw (le-leb 1 x some, le-leb x most few) refl
+
+-- by Split, for a value of n bytes,
+pub split-accepts : (n s masks out : ℕ) → 0 < s → s ≤ 9 → 0 < n → n ≤ 16 → masks ≡ (s - 1) * n → out ≡ s * n
+    → splitOutcome n s masks out ≡ done []
+unfolding splitOutcome
+split-accepts n s masks out some nine long few em eo =
+    rw (in-range 9 s some nine, in-range 16 n long few, eq-eqb masks ((s - 1) * n) em, eq-eqb out (s * n) eo)
+
+-- and by Join
+pub join-accepts : (shares s out : ℕ) → 0 < s → s ≤ 9 → 0 < out → out ≤ 16 → shares ≡ s * out → joinOutcome shares s out ≡ done []
+unfolding joinOutcome
+join-accepts shares s out some nine long few e = rw (in-range 9 s some nine, in-range 16 out long few, eq-eqb shares (s * out) e)
+
+-- ---- values of one byte
+
+-- byte 0 of each of k strings of one byte: the strings themselves
+column-from : (l : List ℕ) (j k : ℕ) → column l 1 j k ≡ tabulate k (λ i. getD l (j + i) 0)
+unfolding column tabulate
+column-from l j zero = refl
+column-from l j (suc k) =
+    let here : j ≡ j + 0 = omega arith in
+    let next : (i : ℕ) → j + 1 + i ≡ j + suc i = λ i. omega arith in
+    ap₂ (λ (x : ℕ) (m : List ℕ). x ∷ m) (ap (λ (i : ℕ). getD l i 0) here)
+    (column-from l (j + 1) k
+    ∙ tabulate-same k (λ i. getD l (j + 1 + i) 0) (λ i. getD l (j + suc i) 0) (λ i h. ap (λ (a : ℕ). getD l a 0) (next i)))
+
+column-whole : (l : List ℕ) (k : ℕ) → length l ≡ k → column l 1 0 k ≡ l
+column-whole l k e =
+    let here : (i : ℕ) → 0 + i ≡ i = λ i. omega arith in
+    column-from l 0 k
+    ∙ tabulate-same k (λ i. getD l (0 + i) 0) (λ i. getD l i 0) (λ i h. ap (λ (a : ℕ). getD l a 0) (here i))
+    ∙ ap (λ (n : ℕ). tabulate n (λ i. getD l i 0)) (sym e)
+    ∙ tabulate-getD l 0
+
+-- Join adds the elements
+pub join-elements : (s : ℕ) (shares : List ℕ) → length shares ≡ s → joinShares 1 s shares ≡ join shares ∷ []
+unfolding joinShares joinedByte tabulate
+join-elements s shares e = ap (λ (l : List ℕ). join l ∷ []) (column-whole shares s e)
+
+-- Split gives the element plus all masks, and the masks
+pub split-elements : (s x : ℕ) (masks : List ℕ) → length masks ≡ s - 1 → splitShares s (x ∷ []) masks ≡ x ⊕ join masks ∷ masks
+unfolding splitShares maskedByte tabulate
+split-elements s x masks e = ap (λ (l : List ℕ). x ⊕ join l ∷ masks) (column-whole masks (s - 1) e)

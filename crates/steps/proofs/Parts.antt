@@ -5,7 +5,7 @@ use Prim.Native.Nat.{ℕ, _+_, _-_}
 use native.Mathlib.Omega.{arith}
 use lib.ListN.{length}
 use Rattle.steps.specs.declared.counts.Counts.{Counts}
-use Rattle.steps.specs.Program.{Run, done, _>>=_, loop, for}
+use Rattle.steps.specs.Program.{Run, return, _>>=_, loop, for}
 use Rattle.steps.specs.Machine.{Ended, ended, exec, onward, Ready, Went}
 use Rattle.steps.proofs.Machine.{exec-bind, then-runs}
 
@@ -50,11 +50,11 @@ module _ {tape watch : List ℕ} {n : Counts} {vs : List ℕ} where
   -- a part whose result is taken on without a step
   pub went-map : {A B : Type 0} {m : Run A} (g : A → B) {p q r : ℕ} {x : A} {n′ : Counts} {vs′ : List ℕ}
       → Went p q r tape watch m n vs x n′ vs′
-      → Went p q r tape watch (m >>= (λ a. done (g a))) n vs (g x) n′ vs′
+      → Went p q r tape watch (m >>= (λ a. return (g a))) n vs (g x) n′ vs′
   unfolding exec
   went-map {m = m} g w =
       record {
-        runs = then-runs tape watch m (λ a. done (g a)) n vs (w .runs) refl;
+        runs = then-runs tape watch m (λ a. return (g a)) n vs (w .runs) refl;
         took-products = w .took-products;
         took-draws = w .took-draws;
         took-steps = w .took-steps;

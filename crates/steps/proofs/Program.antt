@@ -5,13 +5,13 @@ use Prim.Native.Nat.{ℕ, zero, suc, _+_, _-_, _≤_, _<_}
 use native.Mathlib.Omega.{arith}
 use lib.ListN.{length, drop}
 use lib.Seq.{drop-nil}
-use Rattle.steps.specs.Program.{Run, done, step, draw, mark, _>>=_, loop, for, first, later, Entry, result, trace, draws, products, rest}
+use Rattle.steps.specs.Program.{Run, return, step, draw, mark, _>>=_, loop, for, first, later, Entry, result, trace, draws, products, rest}
 
 -- ---- one program, and then another
 
 pub result-bind : {A B : Type 0} (m : Run A) (f : A → Run B) (tape : List ℕ) → result (m >>= f) tape ≡ result (f (result m tape)) (rest m tape)
 unfolding result rest _>>=_
-result-bind (done a) f tape = refl
+result-bind (return a) f tape = refl
 result-bind (step t v m) f tape = result-bind m f tape
 result-bind (draw b k) f tape = result-bind (k (first tape)) f (later tape)
 result-bind (mark m) f tape = result-bind m f tape
@@ -19,7 +19,7 @@ result-bind (mark m) f tape = result-bind m f tape
 pub trace-bind : {A B : Type 0} (m : Run A) (f : A → Run B) (tape : List ℕ)
     → trace (m >>= f) tape ≡ trace m tape ++ trace (f (result m tape)) (rest m tape)
 unfolding result trace rest _>>=_
-trace-bind (done a) f tape = refl
+trace-bind (return a) f tape = refl
 trace-bind (step t v m) f tape = ap (λ (l : List Entry). record { touch = t; value = v } ∷ l) (trace-bind m f tape)
 trace-bind (draw b k) f tape = trace-bind (k (first tape)) f (later tape)
 trace-bind (mark m) f tape = trace-bind m f tape
@@ -27,14 +27,14 @@ trace-bind (mark m) f tape = trace-bind m f tape
 pub draws-bind : {A B : Type 0} (m : Run A) (f : A → Run B) (tape : List ℕ)
     → draws (m >>= f) tape ≡ draws m tape ++ draws (f (result m tape)) (rest m tape)
 unfolding result draws rest _>>=_
-draws-bind (done a) f tape = refl
+draws-bind (return a) f tape = refl
 draws-bind (step t v m) f tape = draws-bind m f tape
 draws-bind (draw b k) f tape = ap (λ (l : List ℕ). b ∷ l) (draws-bind (k (first tape)) f (later tape))
 draws-bind (mark m) f tape = draws-bind m f tape
 
 pub rest-bind : {A B : Type 0} (m : Run A) (f : A → Run B) (tape : List ℕ) → rest (m >>= f) tape ≡ rest (f (result m tape)) (rest m tape)
 unfolding result rest _>>=_
-rest-bind (done a) f tape = refl
+rest-bind (return a) f tape = refl
 rest-bind (step t v m) f tape = rest-bind m f tape
 rest-bind (draw b k) f tape = rest-bind (k (first tape)) f (later tape)
 rest-bind (mark m) f tape = rest-bind m f tape
@@ -43,7 +43,7 @@ rest-bind (mark m) f tape = rest-bind m f tape
 pub products-bind : {A B : Type 0} (i : ℕ) (m : Run A) (f : A → Run B) (tape : List ℕ)
     → products i (m >>= f) tape ≡ products i m tape ++ products (i + length (trace m tape)) (f (result m tape)) (rest m tape)
 unfolding result trace products rest _>>=_
-products-bind i (done a) f tape = let e : i + 0 ≡ i = omega arith in rw e
+products-bind i (return a) f tape = let e : i + 0 ≡ i = omega arith in rw e
 products-bind i (step t v m) f tape =
     let e : i + suc (length (trace m tape)) ≡ i + 1 + length (trace m tape) = omega arith in
     rw e (products-bind (i + 1) m f tape)
@@ -53,7 +53,7 @@ products-bind i (mark m) f tape = ap (λ (l : List ℕ). i ∷ l) (products-bind
 -- grouping does not matter
 pub bind-bind : {A B C : Type 0} (m : Run A) (f : A → Run B) (g : B → Run C) → ((m >>= f) >>= g) ≡ (m >>= (λ a. f a >>= g))
 unfolding _>>=_
-bind-bind (done a) f g = refl
+bind-bind (return a) f g = refl
 bind-bind (step t v m) f g = ap (step t v) (bind-bind m f g)
 bind-bind (draw b k) f g = ap (draw b) (λ i r. bind-bind (k r) f g i)
 bind-bind (mark m) f g = ap mark (bind-bind m f g)
@@ -65,7 +65,7 @@ pub for-turn : {A : Type 0} (i s : ℕ) (f : ℕ → A → Run A) (a : A) → i 
 unfolding for loop
 for-turn i s f a h = let e : s - i ≡ suc (s - (i + 1)) = omega arith in rw e
 
-pub for-end : {A : Type 0} (i s : ℕ) (f : ℕ → A → Run A) (a : A) → s ≤ i → for i s f a ≡ done a
+pub for-end : {A : Type 0} (i s : ℕ) (f : ℕ → A → Run A) (a : A) → s ≤ i → for i s f a ≡ return a
 unfolding for loop
 for-end i s f a h = let e : s - i ≡ 0 = omega arith in rw e
 

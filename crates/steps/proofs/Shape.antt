@@ -1,57 +1,53 @@
 -- The laws of shapes: one program and then another, loops, and what a shape says of a run.
 use mathlib.Core.Path.{_≡_, refl, sym, ap, ap₂, _∙_, subst}
 use mathlib.Core.List.{List, [], _∷_, _++_, map}
-use Prim.Native.Nat.{ℕ, zero, suc, _+_, _-_, _*_, _^_, _≤_, _<_}
+use Prim.Native.Nat.{ℕ, zero, suc, _+_, _-_, _*_, _≤_, _<_}
 use native.Mathlib.Omega.{arith}
 use native.Mathlib.Nat.{suc-mul, zero-mul, zero-add}
 use lib.ListN.{length, replicate, drop, length-append, length-map, replicate-append-replicate}
-use Rattle.steps.specs.Program.{Touch, Run, done, _>>=_, note, random, loop, for, first, later, Entry, result, trace, draws, products, rest}
+use Rattle.steps.specs.Program.{Touch, Run, return, _>>=_, note, loop, for, first, later, Entry, result, trace, draws, products, rest}
 use Rattle.steps.specs.Choices.{Fits}
 use Rattle.steps.proofs.Program.{drop-later}
 use Rattle.steps.specs.Shape.{stepOf, drawOf, marked, Shape, touchesOf, bitsOf, productsOf, loopShape, forShape, stepsOf, drawsOf}
-use Rattle.steps.specs.Shape.{Shaped, shaped-done, shaped-step, shaped-draw, shaped-mark, Counting, Uniform, Alone, alone-nil, alone-step}
+use Rattle.steps.specs.Shape.{Shaped, shaped-return, shaped-step, shaped-draw, shaped-mark, Counting, Uniform, Alone, alone-nil, alone-step}
 
 -- ---- programs
 
 pub shaped-bind : {A B : Type 0} {P : A → Type 0} {Q : B → Type 0} {σ τ : Shape} {m : Run A} {f : A → Run B}
     → Shaped P σ m → ((a : A) → P a → Shaped Q τ (f a)) → Shaped Q (σ ++ τ) (m >>= f)
 unfolding _>>=_
-shaped-bind (shaped-done {a} p) g = g a p
+shaped-bind (shaped-return {a} p) g = g a p
 shaped-bind (shaped-step h) g = shaped-step (shaped-bind h g)
 shaped-bind (shaped-draw h) g = shaped-draw (λ r l. shaped-bind (h r l) g)
 shaped-bind (shaped-mark h) g = shaped-mark (shaped-bind h g)
 
 -- a program that goes on without an event keeps its shape
 pub shaped-map : {A B : Type 0} {P : A → Type 0} {Q : B → Type 0} {σ : Shape} {m : Run A} (g : A → B)
-    → Shaped P σ m → ((a : A) → P a → Q (g a)) → Shaped Q σ (m >>= (λ a. done (g a)))
+    → Shaped P σ m → ((a : A) → P a → Q (g a)) → Shaped Q σ (m >>= (λ a. return (g a)))
 unfolding _>>=_
-shaped-map g (shaped-done {a} p) k = shaped-done (k a p)
+shaped-map g (shaped-return {a} p) k = shaped-return (k a p)
 shaped-map g (shaped-step h) k = shaped-step (shaped-map g h k)
 shaped-map g (shaped-draw h) k = shaped-draw (λ r l. shaped-map g (h r l) k)
 shaped-map g (shaped-mark h) k = shaped-mark (shaped-map g h k)
 
 -- a weaker thing may be said of the result
 pub shaped-weaken : {A : Type 0} {P Q : A → Type 0} {σ : Shape} {m : Run A} → Shaped P σ m → ((a : A) → P a → Q a) → Shaped Q σ m
-shaped-weaken (shaped-done {a} p) k = shaped-done (k a p)
+shaped-weaken (shaped-return {a} p) k = shaped-return (k a p)
 shaped-weaken (shaped-step h) k = shaped-step (shaped-weaken h k)
 shaped-weaken (shaped-draw h) k = shaped-draw (λ r l. shaped-weaken (h r l) k)
 shaped-weaken (shaped-mark h) k = shaped-mark (shaped-weaken h k)
 
 -- two things that hold of the result
 pub shaped-both : {A : Type 0} {P Q : A → Type 0} {σ : Shape} {m : Run A} → Shaped P σ m → Shaped Q σ m → Shaped (λ a. P a × Q a) σ m
-shaped-both (shaped-done p) (shaped-done q) = shaped-done (p, q)
+shaped-both (shaped-return p) (shaped-return q) = shaped-return (p, q)
 shaped-both (shaped-step h) (shaped-step k) = shaped-step (shaped-both h k)
 shaped-both (shaped-draw h) (shaped-draw k) = shaped-draw (λ r l. shaped-both (h r l) (k r l))
 shaped-both (shaped-mark h) (shaped-mark k) = shaped-mark (shaped-both h k)
 
--- one step, and one draw
+-- one step
 pub shaped-note : {P : ℕ → Type 0} (t : Touch) (v : ℕ) → P v → Shaped P (stepOf t ∷ []) (note t v)
 unfolding note
-shaped-note t v p = shaped-step (shaped-done p)
-
-pub shaped-random : (b : ℕ) → Shaped (λ r. r < 2 ^ b) (drawOf b ∷ []) (random b)
-unfolding random
-shaped-random b = shaped-draw (λ r l. shaped-done l)
+shaped-note t v p = shaped-step (shaped-return p)
 
 -- ---- loops: P j holds of what turn j begins with
 
@@ -59,7 +55,7 @@ module _ {A : Type 0} (P : ℕ → A → Type 0) (σ : ℕ → Shape) {f : ℕ �
   shaped-loop : (i k s : ℕ) → i + k ≡ s → ((j : ℕ) (a : A) → i ≤ j → j < s → P j a → Shaped (P (j + 1)) (σ j) (f j a))
       → (a : A) → P i a → Shaped (P s) (loopShape σ i k) (loop f i k a)
   unfolding loop loopShape
-  shaped-loop i zero s e h a p = let l : i ≡ s = omega arith in shaped-done (subst (λ (x : ℕ). P x a) l p)
+  shaped-loop i zero s e h a p = let l : i ≡ s = omega arith in shaped-return (subst (λ (x : ℕ). P x a) l p)
   shaped-loop i (suc k) s e h a p =
       shaped-bind (h i a (omega arith) (omega arith) p) (λ b q. shaped-loop (i + 1) k s (omega arith) (λ j c l. h j c (omega arith)) b q)
 
@@ -73,7 +69,7 @@ module _ {A : Type 0} (P : ℕ → A → Type 0) (σ : ℕ → Shape) {f : ℕ �
 module _ {A : Type 0} {P : A → Type 0} where
   pub shaped-result : {σ : Shape} {m : Run A} → Shaped P σ m → (tape : List ℕ) → Fits (bitsOf σ) tape → P (result m tape)
   unfolding result bitsOf
-  shaped-result (shaped-done p) tape l = p
+  shaped-result (shaped-return p) tape l = p
   shaped-result (shaped-step h) tape l = shaped-result h tape l
   shaped-result (shaped-draw h) tape l = shaped-result (h (first tape) (l .0)) (later tape) (l .1)
   shaped-result (shaped-mark h) tape l = shaped-result h tape l
@@ -81,14 +77,14 @@ module _ {A : Type 0} {P : A → Type 0} where
   pub shaped-trace : {σ : Shape} {m : Run A} → Shaped P σ m → (tape : List ℕ) → Fits (bitsOf σ) tape
       → map (λ (e : Entry). e .touch) (trace m tape) ≡ touchesOf σ
   unfolding trace bitsOf touchesOf
-  shaped-trace (shaped-done p) tape l = refl
+  shaped-trace (shaped-return p) tape l = refl
   shaped-trace (shaped-step {t} h) tape l = ap (λ (ts : List Touch). t ∷ ts) (shaped-trace h tape l)
   shaped-trace (shaped-draw h) tape l = shaped-trace (h (first tape) (l .0)) (later tape) (l .1)
   shaped-trace (shaped-mark h) tape l = shaped-trace h tape l
 
   pub shaped-draws : {σ : Shape} {m : Run A} → Shaped P σ m → (tape : List ℕ) → Fits (bitsOf σ) tape → draws m tape ≡ bitsOf σ
   unfolding draws bitsOf
-  shaped-draws (shaped-done p) tape l = refl
+  shaped-draws (shaped-return p) tape l = refl
   shaped-draws (shaped-step h) tape l = shaped-draws h tape l
   shaped-draws (shaped-draw {b} h) tape l = ap (λ (bits : List ℕ). b ∷ bits) (shaped-draws (h (first tape) (l .0)) (later tape) (l .1))
   shaped-draws (shaped-mark h) tape l = shaped-draws h tape l
@@ -96,14 +92,14 @@ module _ {A : Type 0} {P : A → Type 0} where
   pub shaped-products : {σ : Shape} {m : Run A} → Shaped P σ m → (i : ℕ) (tape : List ℕ) → Fits (bitsOf σ) tape
       → length (products i m tape) ≡ productsOf σ
   unfolding products bitsOf productsOf
-  shaped-products (shaped-done p) i tape l = refl
+  shaped-products (shaped-return p) i tape l = refl
   shaped-products (shaped-step h) i tape l = shaped-products h (i + 1) tape l
   shaped-products (shaped-draw h) i tape l = shaped-products (h (first tape) (l .0)) i (later tape) (l .1)
   shaped-products (shaped-mark h) i tape l = ap suc (shaped-products h i tape l)
 
   pub shaped-rest : {σ : Shape} {m : Run A} → Shaped P σ m → (tape : List ℕ) → Fits (bitsOf σ) tape → rest m tape ≡ drop (drawsOf σ) tape
   unfolding rest bitsOf
-  shaped-rest (shaped-done p) tape l = refl
+  shaped-rest (shaped-return p) tape l = refl
   shaped-rest (shaped-step h) tape l = shaped-rest h tape l
   shaped-rest (shaped-draw {σ} h) tape l =
       shaped-rest (h (first tape) (l .0)) (later tape) (l .1) ∙ sym (drop-later (drawsOf σ) tape)
@@ -186,11 +182,3 @@ uniform-for n i s σ h = go i (s - i)
 pub alone-append : {i : ℕ} {σ τ : Shape} → Alone i σ → Alone i τ → Alone i (σ ++ τ)
 alone-append alone-nil k = k
 alone-append (alone-step h) k = alone-step (alone-append h k)
-
-pub alone-for : (i : ℕ) (σ : ℕ → Shape) → ((j : ℕ) → Alone i (σ j)) → (k s : ℕ) → Alone i (forShape k s σ)
-unfolding forShape loopShape
-alone-for i σ h k s = go k (s - k)
-  where
-    go : (j l : ℕ) → Alone i (loopShape σ j l)
-    go j zero = alone-nil
-    go j (suc l) = alone-append (h j) (go (j + 1) l)

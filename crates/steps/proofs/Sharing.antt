@@ -7,19 +7,21 @@ use native.Mathlib.Nat.{sub-zero}
 use native.Mathlib.Numerals.{add-one}
 use native.Mathlib.Decide.{ℕ-discrete, decLt}
 use native.Mathlib.Omega.{arith}
-use lib.ListN.{length, getD, set, replicate, length-set}
+use lib.ListN.{length, getD, set, replicate, length-set, List·getD-eq-default}
 use lib.Pow.{pow-pos}
 use lib.Seq.{getD-set-same, getD-set-other, set-out}
 use Rattle.xor.specs.Xor.{_⊕_}
 use Rattle.xor.specs.Sum.{join, Small, AdditiveBelow}
 use Rattle.xor.proofs.Xor.{⊕-zero, ⊕-lt, ⊕-exchange}
 use Rattle.xor.proofs.Sum.{small-head, small-tail, small-cons, join-nil, join-cons, additive-below-zero}
-use Rattle.steps.specs.Program.{Run, done, one, _>>=_, note}
-use Rattle.steps.specs.Shape.{Shape, Shaped, Alone}
-use Rattle.steps.specs.Coupling.{Coupled, coupled-done, coupled-step}
+use Rattle.steps.specs.Program.{Run, return, one, _>>=_, note}
+use Rattle.steps.specs.Shape.{Shape, Shaped}
+use Rattle.steps.specs.Coupling.{Coupled, coupled-return, coupled-step}
+use Rattle.steps.specs.Fill.{tabulate}
 use Rattle.steps.specs.Sharing.{share, Sharing, Filled, CloseAt, Close, CloseAll, close-nil, close-cons}
+use Rattle.steps.proofs.Fill.{length-tabulate, getD-tabulate}
 use Rattle.steps.proofs.Shape.{shaped-map}
-use Rattle.steps.proofs.Coupling.{coupled-bind, coupled-alone, seen-one}
+use Rattle.steps.proofs.Coupling.{coupled-bind, seen-one}
 
 -- ---- sums by the number of the share
 
@@ -44,10 +46,6 @@ loop-sum-lt : (n : ℕ) (f : ℕ → ℕ) → ((j : ℕ) → f j < 2 ^ n) → (i
 unfolding loopSum
 loop-sum-lt n f h i zero = pow-pos n
 loop-sum-lt n f h i (suc k) = ⊕-lt n (h i) (loop-sum-lt n f h (i + 1) k)
-
-pub for-sum-lt : (n i s : ℕ) (f : ℕ → ℕ) → ((j : ℕ) → f j < 2 ^ n) → forSum i s f < 2 ^ n
-unfolding forSum
-for-sum-lt n i s f h = loop-sum-lt n f h i (s - i)
 
 pub for-sum-same : (i s : ℕ) (f g : ℕ → ℕ) → ((j : ℕ) → i ≤ j → j < s → f j ≡ g j) → forSum i s f ≡ forSum i s g
 unfolding forSum loopSum
@@ -108,6 +106,25 @@ share-zeros (suc k) (suc j) = share-zeros k j
 pub small-zeros : (n k : ℕ) → Small n (replicate k 0)
 small-zeros n k i = rw (share-zeros k i) (pow-pos n)
 
+-- ---- a list of s places
+
+-- past them there is nothing
+pub tabulated-past : (s : ℕ) (f : ℕ → ℕ) (i : ℕ) → s ≤ i → share (tabulate s f) i ≡ 0
+tabulated-past s f i h = List·getD-eq-default (tabulate s f) 0 {n = i} (omega (arith, length-tabulate s f))
+
+pub small-tabulate : (n s : ℕ) (f : ℕ → ℕ) → ((i : ℕ) → f i < 2 ^ n) → Small n (tabulate s f)
+small-tabulate n s f h i = elim (decLt i s) [
+  | yes k ↦ rw (getD-tabulate s f i 0 k) (h i)
+  | no k ↦ rw (tabulated-past s f i (omega arith)) (pow-pos n)
+]
+
+-- a sharing of s shares joins to the same without its other places
+pub without-past : (s : ℕ) (a : List ℕ) → ((i : ℕ) → s ≤ i → share a i ≡ 0) → join (tabulate s (share a)) ≡ join a
+without-past s a h =
+    join-for s (tabulate s (share a)) (tabulated-past s (share a))
+    ∙ for-sum-same 0 s (λ j. share (tabulate s (share a)) j) (λ j. share a j) (λ j z k. getD-tabulate s (share a) j 0 k)
+    ∙ sym (join-for s a h)
+
 -- ---- a sharing made share by share
 
 -- nothing is filled yet
@@ -140,25 +157,9 @@ filled-sharing n s g c l h =
     at i (yes k) = rw (h .filled i k) (l i k)
     at i (no k) = rw (h .past i (omega arith)) (pow-pos n)
 
--- shares of a mapped by an additive function, and shares of a and b added
-pub filled-map : (n s x : ℕ) (h : ℕ → ℕ) (a c : List ℕ) → AdditiveBelow n h → ((v : ℕ) → v < 2 ^ n → h v < 2 ^ n)
-    → Sharing n s x a → Filled (λ i. h (share a i)) s c → Sharing n s (h x) c
-filled-map n s x h a c additive closed sa f =
-    let e : forSum 0 s (λ i. h (share a i)) ≡ h x =
-    for-sum-map n h additive 0 s (share a) (sa .small) ∙ ap h (sym (join-for s a (sa .past)) ∙ sa .joins) in
-    rw e at (filled-sharing n s (λ i. h (share a i)) c (λ i l. closed (share a i) (sa .small i)) f)
-
-pub filled-add : (n s x y : ℕ) (a b c : List ℕ) → Sharing n s x a → Sharing n s y b → Filled (λ i. share a i ⊕ share b i) s c
-    → Sharing n s (x ⊕ y) c
-filled-add n s x y a b c sa sb f =
-    let e : forSum 0 s (λ i. share a i ⊕ share b i) ≡ x ⊕ y =
-    for-sum-add 0 s (share a) (share b)
-    ∙ ap₂ (λ (v w : ℕ). v ⊕ w) (sym (join-for s a (sa .past)) ∙ sa .joins) (sym (join-for s b (sb .past)) ∙ sb .joins) in
-    rw e at (filled-sharing n s (λ i. share a i ⊕ share b i) c (λ i l. ⊕-lt n (sa .small i) (sb .small i)) f)
-
 -- the turn of a loop that records for share i and puts the result in its place
 pub shaped-store : {g : ℕ → ℕ} {i : ℕ} {σ : Shape} {m : Run ℕ} {c : List ℕ} → i < 9 → Shaped (λ v. v ≡ g i) σ m → Filled g i c
-    → Shaped (Filled g (i + 1)) σ (m >>= (λ v. done (set c i v)))
+    → Shaped (Filled g (i + 1)) σ (m >>= (λ v. return (set c i v)))
 shaped-store {i = i} {c = c} l s h = shaped-map (λ v. set c i v) s (λ v e. filled-set l e h)
 
 -- ---- sharings that agree but for share u
@@ -208,14 +209,9 @@ close-append (close-cons c g) h = close-cons c (close-append g h)
 -- one step of share i
 pub coupled-note : {n u : ℕ} (i : ℕ) {v w : ℕ} → CloseAt n u i v w → Coupled u (CloseAt n u i) (note (one i) v) (note (one i) w)
 unfolding note
-coupled-note i e = coupled-step (seen-one (e .agree)) (coupled-done e)
-
--- several steps of share i alone, the same on both sides unless i is u
-pub coupled-own : {n u i : ℕ} {σ : Shape} {m m′ : Run ℕ} → Alone i σ → Shaped (λ v. v < 2 ^ n) σ m → Shaped (λ v. v < 2 ^ n) σ m′
-    → (i ≢ u → m ≡ m′) → Coupled u (CloseAt n u i) m m′
-coupled-own h s s′ e = coupled-alone h s s′ e (λ v w k l p. record { agree = p; small = k; small′ = l })
+coupled-note i e = coupled-step (seen-one (e .agree)) (coupled-return e)
 
 -- the turn of a loop that records for share i and puts the result in its place
 pub coupled-store : {n u : ℕ} (i : ℕ) {m m′ : Run ℕ} {c c′ : List ℕ} → Coupled u (CloseAt n u i) m m′ → Close n u c c′
-    → Coupled u (Close n u) (m >>= (λ v. done (set c i v))) (m′ >>= (λ v. done (set c′ i v)))
-coupled-store i h c = coupled-bind h (λ v w e. coupled-done (close-set c i e))
+    → Coupled u (Close n u) (m >>= (λ v. return (set c i v))) (m′ >>= (λ v. return (set c′ i v)))
+coupled-store i h c = coupled-bind h (λ v w e. coupled-return (close-set c i e))

@@ -11,12 +11,12 @@ use Rattle.xor.specs.Xor.{_⊕_}
 use Rattle.xor.specs.Sum.{join, Small}
 use Rattle.xor.proofs.Xor.{⊕-lt, ⊕-zero, xor}
 use Rattle.xor.proofs.Sum.{small-head, small-tail, small-cons, join-nil, join-cons, join-small, join-split}
-use Rattle.steps.specs.Program.{Run, done, _>>=_, random, first, later, result, trace}
-use Rattle.steps.specs.Shape.{drawOf, Shape, touchesOf, bitsOf, Shaped, shaped-done, shaped-draw}
-use Rattle.steps.specs.Coupling.{Coupled, coupled-done, coupled-draw}
+use Rattle.steps.specs.Program.{Run, return, _>>=_, random, first, later, trace}
+use Rattle.steps.specs.Shape.{drawOf, Shape, touchesOf, bitsOf, Shaped, shaped-return, shaped-draw}
+use Rattle.steps.specs.Coupling.{Coupled, coupled-return, coupled-draw}
 use Rattle.steps.specs.Sharing.{Sharing, Close, CloseAll, close-nil, close-cons}
 use Rattle.steps.specs.Split.{masks, split, splitAll}
-use Rattle.steps.proofs.Program.{result-bind, bind-bind}
+use Rattle.steps.proofs.Program.{bind-bind}
 use Rattle.steps.proofs.Shape.{shaped-bind, shaped-map}
 use Rattle.steps.proofs.Coupling.{coupled-bind, coupled-self}
 
@@ -29,7 +29,7 @@ record Masks (n k : ℕ) (l : List ℕ) : Type 0 where
 
 shaped-masks : (n k : ℕ) → Shaped (Masks n k) (replicate k (drawOf n)) (masks n k)
 unfolding masks random _>>=_
-shaped-masks n zero = shaped-done (record { long = refl; small = λ i. pow-pos n })
+shaped-masks n zero = shaped-return (record { long = refl; small = λ i. pow-pos n })
 shaped-masks n (suc k) =
     shaped-draw λ r h.
     shaped-map (λ (l : List ℕ). r ∷ l) (shaped-masks n k) (λ l m. record { long = ap suc (m .long); small = small-cons n r l h (m .small) })
@@ -43,38 +43,19 @@ shaped-split n s x k h =
       joins = join-split x l;
     })
 
-masks-result : (n k : ℕ) (tape : List ℕ) → length tape ≡ k → result (masks n k) tape ≡ tape
-unfolding masks random _>>=_ result first later
-masks-result n zero [] e = refl
-masks-result n zero (r ∷ tape) e = absurd (omega arith)
-masks-result n (suc k) [] e = absurd (omega arith)
-masks-result n (suc k) (r ∷ tape) e =
-    result-bind (masks n k) (λ l. done (r ∷ l)) tape ∙ ap (λ (l : List ℕ). r ∷ l) (masks-result n k tape (omega arith))
-
--- on a tape of s - 1 masks the shares are these
-pub split-result : (n s x : ℕ) (tape : List ℕ) → length tape ≡ s - 1 → result (split n s x) tape ≡ x ⊕ join tape ∷ tape
-unfolding split result
-split-result n s x tape e =
-    result-bind (masks n (s - 1)) (λ l. done (x ⊕ join l ∷ l)) tape ∙ ap (λ (l : List ℕ). x ⊕ join l ∷ l) (masks-result n (s - 1) tape e)
-
 -- a tape that begins with the masks: they are read first, and what is made of the shares goes on from there
 masks-trace : {A : Type 0} (n : ℕ) (l tape : List ℕ) (f : List ℕ → Run A) → trace (masks n (length l) >>= f) (l ++ tape) ≡ trace (f l) tape
 unfolding masks random _>>=_ trace first later
 masks-trace n [] tape f = refl
 masks-trace n (r ∷ l) tape f =
-    ap (λ m. trace m (l ++ tape)) (bind-bind (masks n (length l)) (λ m. done (r ∷ m)) f) ∙ masks-trace n l tape (λ m. f (r ∷ m))
+    ap (λ m. trace m (l ++ tape)) (bind-bind (masks n (length l)) (λ m. return (r ∷ m)) f) ∙ masks-trace n l tape (λ m. f (r ∷ m))
 
 pub split-trace : {A : Type 0} (n s x : ℕ) (l tape : List ℕ) (f : List ℕ → Run A) → length l ≡ s - 1
     → trace (split n s x >>= f) (l ++ tape) ≡ trace (f (x ⊕ join l ∷ l)) tape
 unfolding split _>>=_
 split-trace n s x l tape f e =
-    ap (λ m. trace m (l ++ tape)) (bind-bind (masks n (s - 1)) (λ l. done (x ⊕ join l ∷ l)) f)
+    ap (λ m. trace m (l ++ tape)) (bind-bind (masks n (s - 1)) (λ l. return (x ⊕ join l ∷ l)) f)
     ∙ rw (← e) (masks-trace n l tape (λ l. f (x ⊕ join l ∷ l)))
-
--- whatever the tape, they join to the secret
-pub split-joins : (n s x : ℕ) (tape : List ℕ) → join (result (split n s x) tape) ≡ x
-unfolding split result
-split-joins n s x tape = ap join (result-bind (masks n (s - 1)) (λ l. done (x ⊕ join l ∷ l)) tape) ∙ join-split x (result (masks n (s - 1)) tape)
 
 -- ---- two secrets
 
@@ -126,14 +107,14 @@ moved-masks n u zero p d h l = absurd (omega arith)
 moved-masks n u (suc k) zero d h l =
     coupled-draw d h λ r g.
     coupled-bind (same-masks n u k) λ a b e.
-    coupled-done (record {
+    coupled-return (record {
       close = close-head g (⊕-lt n g h) e;
       moved = rw (join-cons (r ⊕ d) b, join-cons r a, ← e .same) (simp xor);
     })
 moved-masks n u (suc k) (suc p) d h l =
     coupled-draw 0 (pow-pos n) λ r g.
     coupled-bind (moved-masks n u k p d h (omega arith)) λ a b e.
-    coupled-done (record {
+    coupled-return (record {
       close = close-tail (sym (⊕-zero r)) g (e .close);
       moved = rw (join-cons (r ⊕ 0) b, join-cons r a, e .moved) (simp xor);
     })
@@ -143,11 +124,11 @@ pub coupled-split : (n s x y u : ℕ) → x < 2 ^ n → y < 2 ^ n → u < s → 
 unfolding split
 coupled-split n s x y zero hx hy l =
     coupled-bind (same-masks n zero (s - 1)) λ a b e.
-    coupled-done (close-head (⊕-lt n hx (join-small n a (e .small))) (⊕-lt n hy (join-small n b (rw (e .same) at (e .small)))) e)
+    coupled-return (close-head (⊕-lt n hx (join-small n a (e .small))) (⊕-lt n hy (join-small n b (rw (e .same) at (e .small)))) e)
 coupled-split n s x y (suc p) hx hy l =
     coupled-bind (moved-masks n (suc p) (s - 1) p (x ⊕ y) (⊕-lt n hx hy) (omega arith)) λ a b e.
     let same : x ⊕ join a ≡ y ⊕ join b = rw (e .moved) (simp xor) in
-    coupled-done (close-tail same (⊕-lt n hx (join-small n a (e .close .small))) (e .close))
+    coupled-return (close-tail same (⊕-lt n hx (join-small n a (e .close .small))) (e .close))
 
 -- ---- two secrets, of m and of n bits, split one after the other
 
@@ -173,7 +154,7 @@ pub shaped-split-all : (n s : ℕ) (xs : List ℕ) → 0 < s → Small n xs
 unfolding splitAll
 shaped-split-all n s [] l h =
     let e : 0 * (s - 1) ≡ 0 = omega arith in
-    rw e (shaped-done (λ k. record { small = λ i. pow-pos n; past = λ i g. refl; joins = join-nil }))
+    rw e (shaped-return (λ k. record { small = λ i. pow-pos n; past = λ i g. refl; joins = join-nil }))
 shaped-split-all n s (x ∷ xs) l h =
     let e : suc (length xs) * (s - 1) ≡ (s - 1) + length xs * (s - 1) = suc-mul (length xs) (s - 1) ∙ add-comm (length xs * (s - 1)) (s - 1) in
     rw (e, ← replicate-append-replicate (s - 1) (length xs * (s - 1)) (drawOf n))
@@ -188,13 +169,13 @@ shaped-split-all n s (x ∷ xs) l h =
 pub coupled-split-all : (n s u : ℕ) (xs ys : List ℕ) → u < s → length xs ≡ length ys → Small n xs → Small n ys
     → Coupled u (CloseAll n u) (splitAll n s xs) (splitAll n s ys)
 unfolding splitAll
-coupled-split-all n s u [] [] l e hx hy = coupled-done close-nil
+coupled-split-all n s u [] [] l e hx hy = coupled-return close-nil
 coupled-split-all n s u [] (y ∷ ys) l e hx hy = absurd (omega arith)
 coupled-split-all n s u (x ∷ xs) [] l e hx hy = absurd (omega arith)
 coupled-split-all n s u (x ∷ xs) (y ∷ ys) l e hx hy =
     coupled-bind (coupled-split n s x y u (small-head n x xs hx) (small-head n y ys hy) l) λ a b c.
     coupled-bind (coupled-split-all n s u xs ys l (omega arith) (small-tail n x xs hx) (small-tail n y ys hy)) λ k m d.
-    coupled-done (close-cons c d)
+    coupled-return (close-cons c d)
 
 -- ---- the draws of splitting, and no step
 

@@ -1,5 +1,5 @@
 -- The laws of the tape.
-use mathlib.Core.Path.{_≡_}
+use mathlib.Core.Path.{_≡_, refl}
 use mathlib.Core.List.{List}
 use Prim.Native.Nat.{ℕ, _+_, _≤_}
 use native.Mathlib.Omega.{arith}
@@ -20,3 +20,21 @@ elements-few width bytes count e = omega arith
 pub elements-length : (width : ℕ) (bytes others : List ℕ) → length bytes ≡ length others → length (elements width bytes) ≡ length (elements width others)
 unfolding elements
 elements-length width bytes others e = e
+
+-- ---- the bytes that hold so many elements, and the elements
+
+-- such bytes hold just so many
+pub elements-count : (width : ℕ) (bytes : List ℕ) (count : ℕ) → length bytes ≡ bytesFor width count → length (elements width bytes) ≡ count
+unfolding elements bytesFor
+elements-count width bytes count e = e
+
+-- every list of so many elements is held by such bytes
+pub elements-held : (width count : ℕ) (l : List ℕ) → length l ≡ count
+    → (bytes : List ℕ) × (length bytes ≡ bytesFor width count) × (elements width bytes ≡ l)
+unfolding elements bytesFor
+elements-held width count l e = (l, e, refl)
+
+-- and by no others
+pub elements-once : (width : ℕ) (bytes others : List ℕ) → elements width bytes ≡ elements width others → bytes ≡ others
+unfolding elements
+elements-once width bytes others e = e

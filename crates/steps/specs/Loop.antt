@@ -1,4 +1,4 @@
--- Loops: the invariant of every loop that runs a program at each number from i₀ up to s.
+-- For inner contracts only. Loops: the invariant of every loop that runs a program at each number from i₀ up to s.
 use mathlib.Core.Path.{_≡_}
 use mathlib.Core.List.{List}
 use Prim.Native.Nat.{ℕ, _+_, _-_, _*_, _≤_}

@@ -1,10 +1,10 @@
--- The machine: a program run as code runs it, from the counts and the values that it is handed to those that it leaves.
+-- For inner contracts only. The machine: a program run as code runs it, from the counts and the values that it is handed to those that it leaves.
 use mathlib.Core.Path.{_≡_}
 use mathlib.Core.List.{List}
 use Prim.Native.Nat.{ℕ, _+_, _^_, _≤_, _<_}
 use lib.ListN.{length, getD}
 use Rattle.steps.specs.declared.counts.Counts.{Counts}
-use Rattle.steps.specs.Program.{Run, done, step, draw, mark, result, trace, draws, products}
+use Rattle.steps.specs.Program.{Run, return, step, draw, mark, result, trace, draws, products}
 use Rattle.steps.specs.Recorder.{seen}
 
 -- the counts after one more product
@@ -30,7 +30,7 @@ pub data Ended (A : Type 0) : Type 0 where
 -- a program run on a tape under a watch list, from counts and values: a draw takes the element whose number is the count of draws so far,
 -- and a step has the number that is the count of steps so far
 unfoldable pub exec : {A : Type 0} → List ℕ → List ℕ → Run A → Counts → List ℕ → Ended A
-exec tape watch (done a) n vs = ended a n vs
+exec tape watch (return a) n vs = ended a n vs
 exec tape watch (step t v m) n vs = exec tape watch m (oneStep n) (seen watch (n .steps) v vs)
 exec tape watch (draw b f) n vs = exec tape watch (f (getD tape (n .random) 0)) (oneDraw n) vs
 exec tape watch (mark m) n vs = exec tape watch m (oneProduct n) vs

@@ -10,7 +10,7 @@ pub data Touch : Type 0 where
 -- a program that ends in an A
 pub data Run (A : Type 0) : Type 0 where
   -- it ends with this result
-  done : A → Run A
+  return : A → Run A
   -- a step: it records one element, touching these shares, and goes on
   step : Touch → ℕ → Run A → Run A
   -- it draws the next random element, of so many bits, and goes on by its value
@@ -21,7 +21,7 @@ pub data Run (A : Type 0) : Type 0 where
 infixl 1 _>>=_ _>>_
 -- one program, and then another that goes on from its result: what a block `do` stands for
 unfoldable pub _>>=_ : {A B : Type 0} → Run A → (A → Run B) → Run B
-done a >>= f = f a
+return a >>= f = f a
 step t v m >>= f = step t v (m >>= f)
 draw b k >>= f = draw b (λ r. k r >>= f)
 mark m >>= f = mark (m >>= f)
@@ -32,15 +32,15 @@ m >> m′ = m >>= (λ a. m′)
 
 -- the step that records v; its result is v
 unfoldable pub note : Touch → ℕ → Run ℕ
-note t v = step t v (done v)
+note t v = step t v (return v)
 
 -- the next random element of b bits
 unfoldable pub random : ℕ → Run ℕ
-random b = draw b done
+random b = draw b return
 
 -- f at i, at i + 1 and so on, k times, each from what the one before gave
 unfoldable pub loop : {A : Type 0} → (ℕ → A → Run A) → ℕ → ℕ → A → Run A
-loop f i zero a = done a
+loop f i zero a = return a
 loop f i (suc k) a = f i a >>= loop f (i + 1) k
 
 -- f at each number from i up to s, s not included
@@ -66,35 +66,35 @@ pub record Entry : Type 0 where
 
 -- the program's result
 unfoldable pub result : {A : Type 0} → Run A → List ℕ → A
-result (done a) tape = a
+result (return a) tape = a
 result (step t v m) tape = result m tape
 result (draw b k) tape = result (k (first tape)) (later tape)
 result (mark m) tape = result m tape
 
 -- its steps: entry k is step number k
 unfoldable pub trace : {A : Type 0} → Run A → List ℕ → List Entry
-trace (done a) tape = []
+trace (return a) tape = []
 trace (step t v m) tape = record { touch = t; value = v } ∷ trace m tape
 trace (draw b k) tape = trace (k (first tape)) (later tape)
 trace (mark m) tape = trace m tape
 
 -- its draws, as the bits of each
 unfoldable pub draws : {A : Type 0} → Run A → List ℕ → List ℕ
-draws (done a) tape = []
+draws (return a) tape = []
 draws (step t v m) tape = draws m tape
 draws (draw b k) tape = b ∷ draws (k (first tape)) (later tape)
 draws (mark m) tape = draws m tape
 
 -- its masked products, each as the number of the step with which it begins, counted from k on
 unfoldable pub products : {A : Type 0} → ℕ → Run A → List ℕ → List ℕ
-products k (done a) tape = []
+products k (return a) tape = []
 products k (step t v m) tape = products (k + 1) m tape
 products k (draw b f) tape = products k (f (first tape)) (later tape)
 products k (mark m) tape = k ∷ products k m tape
 
 -- what it leaves of the tape
 unfoldable pub rest : {A : Type 0} → Run A → List ℕ → List ℕ
-rest (done a) tape = tape
+rest (return a) tape = tape
 rest (step t v m) tape = rest m tape
 rest (draw b k) tape = rest (k (first tape)) (later tape)
 rest (mark m) tape = rest m tape

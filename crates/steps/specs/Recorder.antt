@@ -1,4 +1,4 @@
--- The recorder: what recorded steps leave in the slice of values that goes with a watch list.
+-- For inner contracts only. The recorder: what recorded steps leave in the slice of values that goes with a watch list.
 use mathlib.Core.Bool.{cond}
 use mathlib.Core.List.{List, [], _∷_}
 use Prim.Native.Nat.{ℕ, _+_, _<_}

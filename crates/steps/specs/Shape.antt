@@ -3,7 +3,7 @@ use mathlib.Core.Path.{_≡_}
 use mathlib.Core.List.{List, [], _∷_, _++_}
 use Prim.Native.Nat.{ℕ, zero, suc, _+_, _-_, _^_, _<_}
 use lib.ListN.{length, replicate}
-use Rattle.steps.specs.Program.{Touch, one, Run, done, step, draw, mark}
+use Rattle.steps.specs.Program.{Touch, one, Run, return, step, draw, mark}
 
 -- what a program does at one place: a step that touches these shares, a draw of so many bits, the beginning of a masked product
 pub data Event : Type 0 where
@@ -69,7 +69,7 @@ forShape i s σ = loopShape σ i (s - i)
 
 -- Whatever the program draws, an element of b bits being below 2 ^ b, it has this shape, and P holds of its result.
 pub data Shaped {A : Type 0} (P : A → Type 0) : Shape → Run A → Type 0 where
-  shaped-done : {a : A} → P a → Shaped P [] (done a)
+  shaped-return : {a : A} → P a → Shaped P [] (return a)
   shaped-step : {t : Touch} {v : ℕ} {σ : Shape} {m : Run A} → Shaped P σ m → Shaped P (stepOf t ∷ σ) (step t v m)
   shaped-draw : {b : ℕ} {σ : Shape} {k : ℕ → Run A} → ((r : ℕ) → r < 2 ^ b → Shaped P σ (k r)) → Shaped P (drawOf b ∷ σ) (draw b k)
   shaped-mark : {σ : Shape} {m : Run A} → Shaped P σ m → Shaped P (marked ∷ σ) (mark m)

@@ -3,26 +3,26 @@ use mathlib.Core.List.{List, [], _∷_}
 use Prim.Native.Nat.{ℕ, zero, suc, _-_}
 use Rattle.xor.specs.Xor.{_⊕_}
 use Rattle.xor.specs.Sum.{join}
-use Rattle.steps.specs.Program.{Run, done, _>>=_, random}
+use Rattle.steps.specs.Program.{Run, return, _>>=_, random}
 
 -- k masks of n bits, in the order drawn
 unfoldable pub masks : ℕ → ℕ → Run (List ℕ)
-masks n zero = done []
+masks n zero = return []
 masks n (suc k) = do
   r ← random n
   l ← masks n k
-  done (r ∷ l)
+  return (r ∷ l)
 
 -- a secret of n bits in s shares: shares 1 to s - 1 are masks, share 0 is the secret plus all masks
 unfoldable pub split : ℕ → ℕ → ℕ → Run (List ℕ)
 split n s x = do
   l ← masks n (s - 1)
-  done (x ⊕ join l ∷ l)
+  return (x ⊕ join l ∷ l)
 
 -- several secrets of n bits, one after the other
 unfoldable pub splitAll : ℕ → ℕ → List ℕ → Run (List (List ℕ))
-splitAll n s [] = done []
+splitAll n s [] = return []
 splitAll n s (x ∷ xs) = do
   a ← split n s x
   l ← splitAll n s xs
-  done (a ∷ l)
+  return (a ∷ l)

@@ -2,12 +2,12 @@
 use mathlib.Core.Path.{_≡_, refl, sym, ap, ap₂, _∙_}
 use mathlib.Core.Logic.{_≢_}
 use mathlib.Core.List.{List, [], _∷_, _++_, map}
-use Prim.Native.Nat.{ℕ, zero, suc, _^_, _<_}
+use Prim.Native.Nat.{ℕ, zero, suc, _+_, _^_, _<_}
 use native.Mathlib.Nat.{not-suc-le-zero, le-of-suc-le-suc}
 use native.Mathlib.Omega.{arith}
 use lib.Pow.{pow-pos}
-use lib.Seq.{getD-set-other, lt-length-set}
-use lib.ListN.{length, getD, set, replicate}
+use lib.Seq.{getD-set-other, lt-length-set, getD-drop}
+use lib.ListN.{length, getD, set, replicate, take, drop}
 use Rattle.xor.specs.Xor.{_⊕_}
 use Rattle.xor.specs.Sum.{join, sumOf, addLists, Small, Additive, AdditiveBelow}
 use Rattle.xor.proofs.Xor.{⊕-assoc, ⊕-zero, zero-⊕, ⊕-self, ⊕-lt, ⊕-cancel, ⊕-exchange, xor}
@@ -23,6 +23,20 @@ small-tail n a l h i = h (suc i)
 pub small-cons : (n a : ℕ) (l : List ℕ) → a < 2 ^ n → Small n l → Small n (a ∷ l)
 small-cons n a l h t zero = h
 small-cons n a l h t (suc i) = t i
+
+pub small-append : (n : ℕ) (l m : List ℕ) → Small n l → Small n m → Small n (l ++ m)
+small-append n [] m hl hm i = hm i
+small-append n (a ∷ l) m hl hm zero = hl 0
+small-append n (a ∷ l) m hl hm (suc i) = small-append n l m (small-tail n a l hl) hm i
+
+pub small-take : (n k : ℕ) (l : List ℕ) → Small n l → Small n (take k l)
+small-take n zero l h i = pow-pos n
+small-take n (suc k) [] h i = pow-pos n
+small-take n (suc k) (a ∷ l) h zero = h 0
+small-take n (suc k) (a ∷ l) h (suc i) = small-take n k l (small-tail n a l h) i
+
+pub small-drop : (n k : ℕ) (l : List ℕ) → Small n l → Small n (drop k l)
+small-drop n k l h i = rw (getD-drop k l i 0) (h (k + i))
 
 -- ---- sums of the values of a function
 
@@ -67,6 +81,16 @@ join-zeros (suc n) = ap (λ (x : ℕ). 0 ⊕ x) (join-zeros n) ∙ zero-⊕ 0
 -- share 0 is the value plus the masks, the others are the masks: joined, the value
 pub join-split : (v : ℕ) (masks : List ℕ) → join (v ⊕ join masks ∷ masks) ≡ v
 join-split v masks = join-cons (v ⊕ join masks) masks ∙ simp xor
+
+-- shares are those that the joined value and the shares after the first give
+pub split-join : (a : ℕ) (masks : List ℕ) → a ∷ masks ≡ join (a ∷ masks) ⊕ join masks ∷ masks
+split-join a masks =
+    let e : a ≡ (a ⊕ join masks) ⊕ join masks = simp xor in
+    ap (λ (y : ℕ). y ∷ masks) (e ∙ ap (λ (y : ℕ). y ⊕ join masks) (sym (join-cons a masks)))
+
+-- and no other value and masks give them
+pub split-once : (v w : ℕ) (masks others : List ℕ) → v ⊕ join masks ∷ masks ≡ w ⊕ join others ∷ others → (v ≡ w) × (masks ≡ others)
+split-once v w masks others e = (sym (join-split v masks) ∙ ap join e ∙ join-split w others, cc e)
 
 -- ---- shares that change
 

@@ -1,5 +1,4 @@
 -- `capi::ll_check` meets its contract: the words are those of the answer.
-use Rattle.capi.specs.Words.{words}
 use borrow.Author.Needs.{needs}
 use Rattle.capi.specs.Words.{words}
 use Rattle.capi.proofs.Words.{said}

@@ -1,7 +1,7 @@
 -- `capi::ll_fit` meets its contract: the words are those of the answer.
 use borrow.Author.Needs.{needs}
-use Rattle.decomposition.specs.Fit.{fitReport}
 use Rattle.capi.specs.Words.{words}
+use Rattle.capi.proofs.Words.{reported-fit}
 use Rattle.capi.proofs.ll_fit.Statement.{statement}
 use Rattle.capi.proofs.ll_fit.Tie as tie
 
@@ -33,7 +33,7 @@ returns : tie.Need-returns
 unfolding words
 returns c =
     let call = c .before .before .before .before .before .before .before .before .fit in
-    record { outcome = fitReport (call .result); holds = call .ensures; answered = rw (c .before .before .enum-told .given .1) (c .put .ensures) }
+    reported-fit _ (call .ensures) (rw (c .before .before .enum-told .given .1) (c .put .ensures))
 
 same-length-3 : tie.Need-same-length-3
 same-length-3 c = search needs
@@ -45,7 +45,7 @@ returns-2 : tie.Need-returns-2
 unfolding words
 returns-2 c =
     let call = c .before .before .before .before .before .before .before .before .before .fit in
-    record { outcome = fitReport (call .result); holds = call .ensures; answered = rw (c .before .before .before .a .given .1) (c .put2 .ensures) }
+    reported-fit _ (call .ensures) (rw (c .before .before .before .a .given .1) (c .put2 .ensures))
 
 pub ll-fit-spec : {M : Type 1} → statement M
 ll-fit-spec =

@@ -38,7 +38,7 @@ returns : tie.Need-returns
 unfolding callProgram
 returns c =
     let p = c .before .before .before .before .before .before .before .before .before .before .before .before .before .before .before .before .before .pre in
-    let w = went-whole (c .before .before .before .before .before .before .before .before .before .encrypt .ensures) in
+    let w = went-whole (c .before .before .before .before .before .before .before .before .before .encrypt .ensures .0) in
     succeeds (rw (call-counts (p .0) w, ← (c .bytes-for .ensures))) (c .before .before .before .before .store .ensures ∙ call-output (p .0) _ w)
 
 pub encipher-spec : {M : Type 1} → statement M

@@ -1,6 +1,6 @@
 -- `encryption::load` meets its contract.
 use mathlib.Core.Path.{refl}
-use Rattle.layers.proofs.View.{sharing-loaded}
+use Rattle.layers.proofs.View.{sharing-loaded, zero-loaded}
 use borrow.Author.Needs.{needs}
 use Rattle.cipher.proofs.encryption.load.Statement.{statement}
 use Rattle.cipher.proofs.encryption.load.Tie as tie
@@ -23,6 +23,10 @@ returns c =
     record {
       key-loaded = λ s. rw (c .before .before .before .before .copy .ensures) (sharing-loaded 10 s 90 (a .key .now) (search needs));
       block-loaded = λ s. rw (c .before .copy2 .ensures) (sharing-loaded 8 s 72 (a .block .now) (search needs));
+      zero-past = λ s k b. record {
+        key-zero = rw (c .before .before .before .before .copy .ensures) (zero-loaded 10 s 90 (a .key .now) (search needs) k);
+        block-zero = rw (c .before .copy2 .ensures) (zero-loaded 8 s 72 (a .block .now) (search needs) b);
+      };
       nothing-taken = refl;
     }
 

@@ -18,7 +18,8 @@ returns : tie.Need-returns
 unfolding maskedAddRoundKey
 returns c =
     let recorded = c .before .before in
-    recorded-went 16 _ _ _ (recorded .record-shares .ensures) (recorded .before .before .before .before .add-round-keys .ensures)
+    let made = recorded .before .before .before .before .add-round-keys .ensures in
+    (recorded-went 16 _ _ _ (recorded .record-shares .ensures) (made .0), made .1)
 
 pub add-round-key-spec : {M : Type 1} → statement M
 add-round-key-spec =

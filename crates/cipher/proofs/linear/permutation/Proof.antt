@@ -18,7 +18,8 @@ returns : tie.Need-returns
 unfolding maskedPermute
 returns c =
     let recorded = c .before .before in
-    recorded-went 16 _ _ _ (recorded .record-shares .ensures) (recorded .before .before .before .before .permute-shares .ensures)
+    let made = recorded .before .before .before .before .permute-shares .ensures in
+    (recorded-went 16 _ _ _ (recorded .record-shares .ensures) (made .0), made .1)
 
 pub permutation-spec : {M : Type 1} → statement M
 permutation-spec =

@@ -18,7 +18,8 @@ returns : tie.Need-returns
 unfolding maskedRotate
 returns c =
     let recorded = c .before .before in
-    recorded-went 20 _ _ _ (recorded .record-shares .ensures) (recorded .before .before .before .before .rotate-keys .ensures)
+    let made = recorded .before .before .before .before .rotate-keys .ensures in
+    (recorded-went 20 _ _ _ (recorded .record-shares .ensures) (made .0), made .1)
 
 pub rotation-spec : {M : Type 1} → statement M
 rotation-spec =

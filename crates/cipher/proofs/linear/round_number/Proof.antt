@@ -20,8 +20,10 @@ returns : tie.Need-returns
 unfolding each
 returns c =
     let a = c .before .before .before .before .before .before .before .before .before .before .before .args in
-    number-went (a .r) _ _ _ (c .before .before .record-nibbles .ensures) (c .before .before .before .before .before .before .add-round-number .ensures)
-    (share-sharing 10 (a .s) _ 0 (search needs) (search needs))
+    let made = c .before .before .before .before .before .before .add-round-number .ensures in (
+      number-went (a .r) _ _ _ (c .before .before .record-nibbles .ensures) (made .0) (share-sharing 10 (a .s) _ 0 (search needs) (search needs)),
+      made .1,
+    )
 
 pub round-number-spec : {M : Type 1} → statement M
 round-number-spec =

@@ -5,6 +5,7 @@ use Rattle.steps.specs.Loop.{each}
 use Rattle.sbox.specs.Figures.{sboxProducts, sboxDraws, sboxSteps}
 use Rattle.present.specs.Masked.{maskedRound}
 use Rattle.steps.proofs.Parts.{ready-counts, went-counts, ready-first, ready-next, went-then, went-map}
+use Rattle.layers.proofs.Past.{kept-then, zero-kept}
 use Rattle.cipher.proofs.Figures.{round-products, round-draws, round-steps}
 use native.Mathlib.Omega.{arith}
 use borrow.Author.Needs.{needs}
@@ -18,7 +19,7 @@ add-round-key-requires c κs =
     let p = sboxProducts 4 in
     let q = sboxDraws 4 s in
     let r = sboxSteps 4 s in
-    let ready = ready-counts (start .pre .1 .1) round-products (round-draws s) (round-steps s) in (
+    let ready = ready-counts (start .pre .1 .1 .0) round-products (round-draws s) (round-steps s) in (
       start .pre .0 .1,
       ready-first 0 (each p 16 0 + (0 + p)) 0 (each q 16 0 + (0 + q)) (each 16 s 0) (each r 16 0 + (each 16 s 0 + (20 * s + r + 2))) ready,
     )
@@ -31,9 +32,9 @@ sbox-layer-requires c κs =
     let p = sboxProducts 4 in
     let q = sboxDraws 4 s in
     let r = sboxSteps 4 s in
-    let ready = ready-counts (start .pre .1 .1) round-products (round-draws s) (round-steps s) in
+    let ready = ready-counts (start .pre .1 .1 .0) round-products (round-draws s) (round-steps s) in
     let ready₁ = ready-next (each p 16 0 + (0 + p)) (each q 16 0 + (0 + q)) (each r 16 0 + (each 16 s 0 + (20 * s + r + 2))) ready
-    (added .add-round-key .ensures) (omega (arith, added .add-round-key .kept)) in
+    (added .add-round-key .ensures .0) (omega (arith, added .add-round-key .kept)) in
     let h = start .pre .0 in (
       (h .1, h .3),
       (start .pre .1 .0, ready-first (each p 16 0) (0 + p) (each q 16 0) (0 + q) (each r 16 0) (each 16 s 0 + (20 * s + r + 2)) ready₁),
@@ -48,11 +49,11 @@ permutation-requires c κs =
     let p = sboxProducts 4 in
     let q = sboxDraws 4 s in
     let r = sboxSteps 4 s in
-    let ready = ready-counts (start .pre .1 .1) round-products (round-draws s) (round-steps s) in
+    let ready = ready-counts (start .pre .1 .1 .0) round-products (round-draws s) (round-steps s) in
     let ready₁ = ready-next (each p 16 0 + (0 + p)) (each q 16 0 + (0 + q)) (each r 16 0 + (each 16 s 0 + (20 * s + r + 2))) ready
-    (added .add-round-key .ensures) (omega (arith, added .add-round-key .kept)) in
+    (added .add-round-key .ensures .0) (omega (arith, added .add-round-key .kept)) in
     let ready₂ = ready-next (0 + p) (0 + q) (each 16 s 0 + (20 * s + r + 2)) ready₁
-    (boxed .sbox-layer .ensures) (omega (arith, boxed .sbox-layer .kept)) in
+    (boxed .sbox-layer .ensures .0) (omega (arith, boxed .sbox-layer .kept)) in
     (start .pre .0 .1, ready-first 0 p 0 q (each 16 s 0) (20 * s + r + 2) ready₂)
 
 update-key-requires : tie.Need-update-key-requires
@@ -65,12 +66,12 @@ update-key-requires c κs =
     let p = sboxProducts 4 in
     let q = sboxDraws 4 s in
     let r = sboxSteps 4 s in
-    let ready = ready-counts (start .pre .1 .1) round-products (round-draws s) (round-steps s) in
+    let ready = ready-counts (start .pre .1 .1 .0) round-products (round-draws s) (round-steps s) in
     let ready₁ = ready-next (each p 16 0 + (0 + p)) (each q 16 0 + (0 + q)) (each r 16 0 + (each 16 s 0 + (20 * s + r + 2))) ready
-    (added .add-round-key .ensures) (omega (arith, added .add-round-key .kept)) in
+    (added .add-round-key .ensures .0) (omega (arith, added .add-round-key .kept)) in
     let ready₂ = ready-next (0 + p) (0 + q) (each 16 s 0 + (20 * s + r + 2)) ready₁
-    (boxed .sbox-layer .ensures) (omega (arith, boxed .sbox-layer .kept)) in
-    let ready₃ = ready-next p q (20 * s + r + 2) ready₂ (permuted .permutation .ensures) (omega (arith, permuted .permutation .kept)) in
+    (boxed .sbox-layer .ensures .0) (omega (arith, boxed .sbox-layer .kept)) in
+    let ready₃ = ready-next p q (20 * s + r + 2) ready₂ (permuted .permutation .ensures .0) (omega (arith, permuted .permutation .kept)) in
     (start .pre .0, (start .pre .1 .0, ready₃))
 
 same-length : tie.Need-same-length
@@ -83,11 +84,20 @@ returns c =
     let permuted = updated .before .before .before .before .before in
     let boxed = permuted .before .before .before .before .before in
     let added = boxed .before .before .before .before .before in
-    let s = added .before .before .before .before .before .before .before .before .before .before .args .s in
-    went-counts
-    (went-then _ (added .add-round-key .ensures)
-    (went-then _ (boxed .sbox-layer .ensures) (went-then _ (permuted .permutation .ensures) (went-map _ (updated .update-key .ensures)))))
-    (sym round-products) (sym (round-draws s)) (sym (round-steps s))
+    let start = added .before .before .before .before .before .before .before .before .before .before in
+    let s = start .args .s in
+    let zero = start .pre .1 .1 .1 in (
+      went-counts
+          (went-then _ (added .add-round-key .ensures .0)
+          (went-then _ (boxed .sbox-layer .ensures .0)
+          (went-then _ (permuted .permutation .ensures .0) (went-map _ (updated .update-key .ensures .0)))))
+          (sym round-products) (sym (round-draws s)) (sym (round-steps s)),
+      record {
+        key-zero = zero-kept (zero .key-zero) (updated .update-key .ensures .1);
+        block-zero = zero-kept (zero .block-zero)
+            (kept-then (added .add-round-key .ensures .1) (kept-then (boxed .sbox-layer .ensures .1) (permuted .permutation .ensures .1)));
+      },
+    )
 
 pub round-spec : {M : Type 1} → statement M
 round-spec =

@@ -7,6 +7,7 @@ use Rattle.steps.specs.Loop.{each}
 use Rattle.sbox.specs.Figures.{sboxProducts, sboxDraws, sboxSteps}
 use Rattle.present.specs.Present.{size80, topNibble}
 use Rattle.present.specs.Masked.{addRoundNumber, maskedNibble, maskedTopNibbles, maskedUpdate}
+use Rattle.layers.proofs.Past.{kept-then}
 use Rattle.cipher.specs.Box.{recordSbox}
 use Rattle.steps.proofs.Parts.{ready-counts, went-counts, ready-first, ready-next, went-then, went-once}
 use Rattle.cipher.proofs.Figures.{between, update-steps}
@@ -31,7 +32,7 @@ sbox-nibble-requires c κs =
     let ready =
     ready-counts (start .pre .1 .1) (between (sboxProducts 4)) (between (sboxDraws 4 (a .s))) (update-steps (a .s) (sboxSteps 4 (a .s))) in
     let ready₁ = ready-next (sboxProducts 4 + 0) (sboxDraws 4 (a .s) + 0) (sboxSteps 4 (a .s) + 2) ready
-    (rotated .rotation .ensures) (omega (arith, rotated .rotation .kept)) in
+    (rotated .rotation .ensures .0) (omega (arith, rotated .rotation .kept)) in
     (search needs, (start .pre .1 .0, ready-first (sboxProducts 4) 0 (sboxDraws 4 (a .s)) 0 (sboxSteps 4 (a .s)) 2 ready₁))
 
 round-number-requires : tie.Need-round-number-requires
@@ -43,9 +44,9 @@ round-number-requires c κs =
     let ready =
     ready-counts (start .pre .1 .1) (between (sboxProducts 4)) (between (sboxDraws 4 (a .s))) (update-steps (a .s) (sboxSteps 4 (a .s))) in
     let ready₁ = ready-next (sboxProducts 4 + 0) (sboxDraws 4 (a .s) + 0) (sboxSteps 4 (a .s) + 2) ready
-    (rotated .rotation .ensures) (omega (arith, rotated .rotation .kept)) in
+    (rotated .rotation .ensures .0) (omega (arith, rotated .rotation .kept)) in
     let h = start .pre .0 in
-    ((h .0, h .1, h .2), ready-next 0 0 2 ready₁ (boxed .sbox-nibble .ensures) (omega (arith, boxed .sbox-nibble .kept)))
+    ((h .0, h .1, h .2), ready-next 0 0 2 ready₁ (boxed .sbox-nibble .ensures .0) (omega (arith, boxed .sbox-nibble .kept)))
 
 same-length : tie.Need-same-length
 same-length c = search needs
@@ -57,11 +58,13 @@ returns c =
     let boxed = numbered .before .before .before .before .before in
     let rotated = boxed .before .before .before .before .before in
     let a = rotated .before .before .before .before .before .before .before .args in
-    let top : ℕ → List ℕ → Run (List ℕ) = λ j. maskedNibble (recordSbox (a .s) (a .rec .now)) (topNibble size80 j) in
-    went-counts
-    (went-then _ (rotated .rotation .ensures)
-    (went-then (addRoundNumber size80 (a .r)) (went-once 0 top _ (boxed .sbox-nibble .ensures)) (numbered .round-number .ensures)))
-    (sym (between (sboxProducts 4))) (sym (between (sboxDraws 4 (a .s)))) (sym (update-steps (a .s) (sboxSteps 4 (a .s))))
+    let top : ℕ → List ℕ → Run (List ℕ) = λ j. maskedNibble (recordSbox (a .s) (a .rec .now)) (topNibble size80 j) in (
+      went-counts
+          (went-then _ (rotated .rotation .ensures .0)
+          (went-then (addRoundNumber size80 (a .r)) (went-once 0 top _ (boxed .sbox-nibble .ensures .0)) (numbered .round-number .ensures .0)))
+          (sym (between (sboxProducts 4))) (sym (between (sboxDraws 4 (a .s)))) (sym (update-steps (a .s) (sboxSteps 4 (a .s)))),
+      kept-then (rotated .rotation .ensures .1) (kept-then (boxed .sbox-nibble .ensures .1) (numbered .round-number .ensures .1)),
+    )
 
 pub update-key-spec : {M : Type 1} → statement M
 update-key-spec =

@@ -36,8 +36,11 @@ returns c =
     let boxed = c .before .before .before .before .before .before .before .before .before in
     let taken = boxed .before .before .before in
     let a = taken .before .before .before .before .before .before .before .args in
-    nibble-substituted (recordSbox (a .s) (a .rec .now)) (a .k) (sharing (a .w) (a .s) (a .l .now)) _ _ _
-    (taken .column .ensures) (boxed .run .ensures) (c .before .before .before .replace-column .ensures)
+    let made = c .before .before .before .replace-column .ensures in (
+      nibble-substituted (recordSbox (a .s) (a .rec .now)) (a .k) (sharing (a .w) (a .s) (a .l .now)) _ _ _
+          (taken .column .ensures) (boxed .run .ensures) (made .0),
+      made .1,
+    )
 
 pub sbox-nibble-spec : {M : Type 1} → statement M
 sbox-nibble-spec =

@@ -50,7 +50,7 @@ returns-2 c =
     let e : firstLarge (blockSteps (a .s)) (a .list .now) ≡ past .result =
     rw (← (tested .before .before .step-count .ensures)) (sym (past .ensures)) in
     let h : length (a .list .now) ≤ firstLarge (blockSteps (a .s)) (a .list .now) = omega (arith, e, tested .if1 .left) in
-    let w = c .before .before .before .before .encrypt .ensures in
+    let w = c .before .before .before .before .encrypt .ensures .0 in
     succeeds (rw (le-leb _ _ h, call-counts (p .0) (went-whole w), ← (c .bytes-for .ensures))) (call-watched (p .0) (p .1) h w)
 
 pub watch-spec : {M : Type 1} → statement M

@@ -5,20 +5,20 @@ use native.Mathlib.Nat.{zero-mul}
 use native.Mathlib.Omega.{arith}
 use lib.ListN.{length, length-set}
 use Rattle.field.specs.Mul.{mul}
-use Rattle.linear.specs.Buffer.{Filled, from}
+use Rattle.linear.specs.Buffer.{Overwritten, from}
 use Rattle.linear.specs.Row.{Agree}
-use Rattle.linear.proofs.Buffer.{filled-none, filled-more, filled-values}
-use Rattle.decomposition.specs.Form.{column, monomial}
+use Rattle.linear.proofs.Buffer.{overwritten-none, overwritten-more, overwritten-values}
+use Rattle.decomposition.specs.Form.{unknownColumn, monomial}
 use Rattle.decomposition.proofs.Columns.{column-at, equation-column, equation-right}
 use Rattle.decomposition.proofs.Sizes.{block-room}
-use Rattle.decomposition.proofs.Work.{filled-join, next-block}
+use Rattle.decomposition.proofs.Work.{overwritten-join, next-block}
 use Rattle.decomposition.proofs.equations.equation_at.Statement.{statement}
 use Rattle.decomposition.proofs.equations.equation_at.Tie as tie
 
 abbrev Inv-loop : tie.InvT-loop
 Inv-loop L basis work₀ a p v width count terms i₀ work i =
     (i ≤ terms) × (length work ≡ length work₀)
-    × ((x : ℕ) → Agree count (from work₀ p) (monomial width x) → Filled work₀ work a (i * count) (column L basis x))
+    × ((x : ℕ) → Agree count (from work₀ p) (monomial width x) → Overwritten work₀ work a (i * count) (unknownColumn L basis x))
 
 abbrev μ-loop : tie.MeasureT-loop
 μ-loop L basis work₀ a p v width count terms i₀ work i = terms - i
@@ -31,7 +31,7 @@ room c = block-room (c .before .before .before .before .pre .0) (c .loop-test .t
 loop-holds : tie.Need-loop-holds Inv-loop μ-loop
 loop-holds c =
     let s = c .before .before in
-    (omega arith, refl, (λ x h. rw (zero-mul (s .args .layout .exponents)) (filled-none (s .args .work .now) (s .args .a) _)))
+    (omega arith, refl, (λ x h. rw (zero-mul (s .args .layout .exponents)) (overwritten-none (s .args .work .now) (s .args .a) _)))
 
 factor-at-requires : tie.Need-factor-at-requires Inv-loop μ-loop
 factor-at-requires c κs =
@@ -78,7 +78,7 @@ loop-again c =
           let u = at-loop .loop .inv .2 x h in
           let kept : Agree (L .exponents) (from (at-loop .loop .work) (s .args .p)) (monomial (L .width) x) =
           record { at = λ j l. u .high (s .args .p + j) (omega (arith, s .pre .1 .below, r)) ∙ h .at j l } in
-          rw (next-block i (L .exponents)) (filled-join u (after .multiple .ensures) (λ j l.
+          rw (next-block i (L .exponents)) (overwritten-join u (after .multiple .ensures) (λ j l.
           ap₂ (mul (L .width)) (g .ensures x kept) (kept .at j l) ∙ sym (column-at L (s .args .basis .now) x i j l))),
     )
 
@@ -102,8 +102,8 @@ returns c =
     let q = s .args .basis .now in
     let d : at-loop .loop .i * L .exponents ≡ L .unknowns =
     let e : at-loop .loop .i ≡ L .terms = omega arith in ap (λ (k : ℕ). k * L .exponents) e ∙ sym (s .pre .0 .unknowns) in
-    let u : Filled (s .args .work .now) (at-loop .loop .work) (s .args .a) (L .unknowns) (column L q x) = rw d at (at-loop .loop .inv .2 x h) in
-    filled-more (filled-values u (λ j l. sym (equation-column L q x (s .args .v) j l)))
+    let u : Overwritten (s .args .work .now) (at-loop .loop .work) (s .args .a) (L .unknowns) (unknownColumn L q x) = rw d at (at-loop .loop .inv .2 x h) in
+    overwritten-more (overwritten-values u (λ j l. sym (equation-column L q x (s .args .v) j l)))
     (omega (arith, s .pre .1 .below, s .pre .1 .room, at-loop .loop .inv .1)) (s .args .v) (sym (equation-right L q x (s .args .v)))
 
 pub equation-at-spec : {M : Type 1} → statement M

@@ -4,22 +4,22 @@ use Prim.Native.Nat.{_+_, _-_, _≤_}
 use native.Mathlib.Omega.{arith}
 use lib.ListN.{length, length-set}
 use Rattle.field.specs.Mul.{mul}
-use Rattle.linear.specs.Buffer.{Filled, from}
+use Rattle.linear.specs.Buffer.{Overwritten, from}
 use Rattle.linear.specs.Row.{times}
 use Rattle.linear.specs.Scalars.{scalars}
-use Rattle.linear.proofs.Buffer.{filled-more, filled-none}
+use Rattle.linear.proofs.Buffer.{overwritten-more, overwritten-none}
 use Rattle.decomposition.proofs.equations.multiple.Statement.{statement}
 use Rattle.decomposition.proofs.equations.multiple.Tie as tie
 
 abbrev Inv-loop : tie.InvT-loop
 Inv-loop width count work₀ a p f j₀ work j =
-    (j ≤ count) × (length work ≡ length work₀) × Filled work₀ work a j (times (scalars width) f (from work₀ p))
+    (j ≤ count) × (length work ≡ length work₀) × Overwritten work₀ work a j (times (scalars width) f (from work₀ p))
 
 abbrev μ-loop : tie.MeasureT-loop
 μ-loop width count work₀ a p f j₀ work j = count - j
 
 loop-holds : tie.Need-loop-holds Inv-loop μ-loop
-loop-holds c = (omega arith, refl, filled-none (c .before .args .work .now) (c .before .args .a) _)
+loop-holds c = (omega arith, refl, overwritten-none (c .before .args .work .now) (c .before .args .a) _)
 
 add-y : tie.Need-add-y Inv-loop μ-loop
 add-y c = omega arith
@@ -50,7 +50,7 @@ loop-again c =
     let u = at-loop .loop .inv .2 in (
       omega arith,
       length-set (at-loop .loop .work) (s .args .a + j) _ ∙ at-loop .loop .inv .1,
-      filled-more u (omega arith) _ (c .mul .ensures ∙ ap (mul (s .args .width) (s .args .f)) (u .high (s .args .p + j) (omega arith))),
+      overwritten-more u (omega arith) _ (c .mul .ensures ∙ ap (mul (s .args .width) (s .args .f)) (u .high (s .args .p + j) (omega arith))),
     )
 
 same-length : tie.Need-same-length Inv-loop μ-loop

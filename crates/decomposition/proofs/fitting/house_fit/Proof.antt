@@ -1,9 +1,10 @@
 -- `decomposition::house_fit` meets its contract: a fit over the constant, which is the house basis.
 use mathlib.Core.Path.{refl, ap}
 use borrow.Author.Needs.{needs}
-use Rattle.decomposition.specs.Fit.{fitReport, houseBasis}
-use Rattle.decomposition.proofs.Ready.{fits-as, fits-at}
+use Rattle.decomposition.specs.Fit.{fitReport, houseBasis, houseCall}
+use Rattle.decomposition.proofs.Ready.{fit-at-width}
 use Rattle.decomposition.proofs.Sizes.{sizes}
+use Rattle.decomposition.proofs.Total.{fit-end-as}
 use Rattle.decomposition.proofs.fitting.house_fit.Statement.{statement}
 use Rattle.decomposition.proofs.fitting.house_fit.Tie as tie
 
@@ -33,9 +34,10 @@ unfolding houseBasis
 returns c =
     let s = c .before .before .before .before .before .before .before .before .before .before .before .before .before .before .before in
     let f = c .before .before .before .before .before .before .before in
-    fits-as 4 (s .args .table .now) houseBasis (s .args .work .now) (s .args .out .now) _ _ (ap fitReport (c .before .answer .given .1))
-    (fits-at (f .before .before .before .before .layout-of .result) (s .args .table .now) houseBasis (s .args .work .now) (s .args .out .now)
-    4 refl (f .before .before .before .before .layout-of .ensures) _ _ _ (f .fit-at .ensures))
+    let call = houseCall (s .args .table .now) (s .args .work .now) (s .args .out .now) in
+    fit-end-as 4 call _ (ap fitReport (c .before .answer .given .1))
+    (fit-at-width (f .before .before .before .before .layout-of .result) call 4 refl (f .before .before .before .before .layout-of .ensures) _
+    (f .fit-at .ensures))
 
 same-length-3 : tie.Need-same-length-3
 same-length-3 c = search needs
@@ -48,9 +50,10 @@ unfolding houseBasis
 returns-2 c =
     let s = c .before .before .before .before .before .before .before .before .before .before .before .before .before .before in
     let f = c .before .before .before .before .before .before in
-    fits-as 4 (s .args .table .now) houseBasis (s .args .work .now) (s .args .out .now) _ _ (ap fitReport (c .enum-told .given .1))
-    (fits-at (f .before .before .before .before .layout-of .result) (s .args .table .now) houseBasis (s .args .work .now) (s .args .out .now)
-    4 refl (f .before .before .before .before .layout-of .ensures) _ _ _ (f .fit-at .ensures))
+    let call = houseCall (s .args .table .now) (s .args .work .now) (s .args .out .now) in
+    fit-end-as 4 call _ (ap fitReport (c .enum-told .given .1))
+    (fit-at-width (f .before .before .before .before .layout-of .result) call 4 refl (f .before .before .before .before .layout-of .ensures) _
+    (f .fit-at .ensures))
 
 pub house-fit-spec : {M : Type 1} → statement M
 house-fit-spec =

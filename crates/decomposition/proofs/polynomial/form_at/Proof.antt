@@ -69,7 +69,7 @@ returns c =
     let L = s .args .layout in
     let w = c .before .before .before .before .before .power-row in
     let powers : List ℕ = w .last .1 .1 .0 in
-    let a : Agree (L .exponents) (from powers 0) (monomial (L .width) (s .args .x)) = record { at = w .ensures .done } in
+    let a : Agree (L .exponents) (from powers 0) (monomial (L .width) (s .args .x)) = record { at = w .ensures .new } in
     ⊕-is (c .before .before .products .result) (c .evaluate .result)
     ∙ ap₂ _⊕_ (c .before .before .products .ensures (s .args .x) a)
     (c .evaluate .ensures ∙ solution-value (s .pre .0) (s .args .bytes .now) powers (s .args .x) a (L .terms - 1))

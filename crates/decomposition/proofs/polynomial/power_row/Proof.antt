@@ -5,21 +5,21 @@ use native.Mathlib.Omega.{arith}
 use lib.ListN.{length, length-set}
 use Rattle.field.specs.Power.{pow}
 use Rattle.field.proofs.Power.{pow-zero}
-use Rattle.linear.specs.Buffer.{Filled}
-use Rattle.linear.proofs.Buffer.{filled-more, filled-none}
+use Rattle.linear.specs.Buffer.{Overwritten}
+use Rattle.linear.proofs.Buffer.{overwritten-more, overwritten-none}
 use Rattle.decomposition.specs.Form.{monomial}
 use Rattle.decomposition.proofs.polynomial.power_row.Statement.{statement}
 use Rattle.decomposition.proofs.polynomial.power_row.Tie as tie
 
 abbrev Inv-loop : tie.InvT-loop
 Inv-loop width count out₀ a x e₀ power₀ j₀ out e power j =
-    (j ≤ count) × (length out ≡ length out₀) × Filled out₀ out a j (monomial width x) × (power ≡ pow width x e)
+    (j ≤ count) × (length out ≡ length out₀) × Overwritten out₀ out a j (monomial width x) × (power ≡ pow width x e)
 
 abbrev μ-loop : tie.MeasureT-loop
 μ-loop width count out₀ a x e₀ power₀ j₀ out e power j = count - j
 
 loop-holds : tie.Need-loop-holds Inv-loop μ-loop
-loop-holds c = (omega arith, refl, filled-none (c .before .args .out .now) (c .before .args .a) _, sym (pow-zero _ _))
+loop-holds c = (omega arith, refl, overwritten-none (c .before .args .out .now) (c .before .args .a) _, sym (pow-zero _ _))
 
 exponent-requires : tie.Need-exponent-requires Inv-loop μ-loop
 exponent-requires c κs =
@@ -51,7 +51,7 @@ loop-again c =
     let j = at-loop .loop .j in (
       omega arith,
       length-set (at-loop .loop .out) (s .args .a + j) _ ∙ at-loop .loop .inv .1,
-      filled-more (at-loop .loop .inv .2) (omega arith) _ (c .next-power .ensures ∙ ap (pow (s .args .width) (s .args .x)) (c .before .exponent .ensures)),
+      overwritten-more (at-loop .loop .inv .2) (omega arith) _ (c .next-power .ensures ∙ ap (pow (s .args .width) (s .args .x)) (c .before .exponent .ensures)),
       c .next-power .ensures,
     )
 

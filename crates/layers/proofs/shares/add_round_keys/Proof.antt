@@ -14,7 +14,7 @@ use Rattle.layers.proofs.shares.add_round_keys.Tie as tie
 
 abbrev Inv-loop : tie.InvT-loop
 Inv-loop s key block₀ i₀ block i =
-    Turned 8 (λ j. present.roundKey present.size80 (shareAt 10 key j) ⊕ shareAt 8 block₀ j) i block₀ block
+    Turned 8 s (λ j. present.roundKey present.size80 (shareAt 10 key j) ⊕ shareAt 8 block₀ j) i block₀ block
 
 abbrev μ-loop : tie.MeasureT-loop
 μ-loop s key block₀ i₀ block i = s - i
@@ -35,7 +35,7 @@ loop-again : tie.Need-loop-again Inv-loop μ-loop
 loop-again c =
     let l = c .before .before .before .before .loop in
     let a = c .before .before .before .before .before .args in
-    turned-more (l .inv) (c .add-share .ensures)
+    turned-more (l .inv) (search needs) (c .add-share .ensures)
     (ap (λ (x : ℕ). present.roundKey present.size80 (shareAt 10 (a .key .now) (l .i)) ⊕ x) (l .inv .ahead (l .i) (omega arith)))
 
 returns : tie.Need-returns Inv-loop μ-loop
@@ -43,10 +43,12 @@ unfolding sharing sharesOf
 returns c =
     let a = c .before .before .args in
     let h : a .s ≤ 9 = search needs in
-    let k = shareAt 10 (a .key .now) in
-    turned-all (c .before .loop .inv) (c .loop-test .left)
-    ∙ sym (rw (map-given (a .s) h (round-key-linear present.size80 sound80) k)
-    (wise-given (a .s) h (sum-linear 64) (λ i. present.roundKey present.size80 (k i)) (shareAt 8 (a .block .now))))
+    let k = shareAt 10 (a .key .now) in (
+      turned-all (c .before .loop .inv) (c .loop-test .left)
+          ∙ sym (rw (map-given (a .s) h (round-key-linear present.size80 sound80) k)
+          (wise-given (a .s) h (sum-linear 64) (λ i. present.roundKey present.size80 (k i)) (shareAt 8 (a .block .now)))),
+      c .before .loop .inv .past,
+    )
 
 pub add-round-keys-spec : {M : Type 1} → statement M
 add-round-keys-spec =

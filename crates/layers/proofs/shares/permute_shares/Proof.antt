@@ -11,7 +11,7 @@ use Rattle.layers.proofs.shares.permute_shares.Statement.{statement}
 use Rattle.layers.proofs.shares.permute_shares.Tie as tie
 
 abbrev Inv-loop : tie.InvT-loop
-Inv-loop s block₀ i₀ block i = Turned 8 (λ j. present.permute (shareAt 8 block₀ j)) i block₀ block
+Inv-loop s block₀ i₀ block i = Turned 8 s (λ j. present.permute (shareAt 8 block₀ j)) i block₀ block
 
 abbrev μ-loop : tie.MeasureT-loop
 μ-loop s block₀ i₀ block i = s - i
@@ -31,13 +31,15 @@ loop-less c = search needs
 loop-again : tie.Need-loop-again Inv-loop μ-loop
 loop-again c =
     let l = c .before .before .before .loop in
-    turned-more (l .inv) (c .permute-share .ensures) (ap present.permute (l .inv .ahead (l .i) (omega arith)))
+    turned-more (l .inv) (search needs) (c .permute-share .ensures) (ap present.permute (l .inv .ahead (l .i) (omega arith)))
 
 returns : tie.Need-returns Inv-loop μ-loop
 unfolding sharing sharesOf
 returns c =
-    let a = c .before .before .args in
-    turned-all (c .before .loop .inv) (c .loop-test .left) ∙ sym (map-given (a .s) (search needs) permute-linear (shareAt 8 (a .block .now)))
+    let a = c .before .before .args in (
+      turned-all (c .before .loop .inv) (c .loop-test .left) ∙ sym (map-given (a .s) (search needs) permute-linear (shareAt 8 (a .block .now))),
+      c .before .loop .inv .past,
+    )
 
 pub permute-shares-spec : {M : Type 1} → statement M
 permute-shares-spec =

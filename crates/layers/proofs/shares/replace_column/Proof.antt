@@ -17,7 +17,7 @@ use Rattle.layers.proofs.shares.replace_column.Statement.{statement}
 use Rattle.layers.proofs.shares.replace_column.Tie as tie
 
 abbrev Inv-loop : tie.InvT-loop
-Inv-loop w s k v l₀ i₀ l i = (length l ≡ length l₀) × Turned w (λ j. present.replace k (shareAt w l₀ j) (share v j)) i l₀ l
+Inv-loop w s k v l₀ i₀ l i = (length l ≡ length l₀) × Turned w s (λ j. present.replace k (shareAt w l₀ j) (share v j)) i l₀ l
 
 abbrev μ-loop : tie.MeasureT-loop
 μ-loop w s k v l₀ i₀ l i = s - i
@@ -48,7 +48,7 @@ loop-again c =
     let a = c .before .before .before .before .before .before .before .before .args in
     let l = c .before .before .before .before .before .before .loop in (
       search needs,
-      turned-more (l .inv .1) (c .before .before .replace .ensures)
+      turned-more (l .inv .1) (search needs) (c .before .before .replace .ensures)
           (ap (λ (x : ℕ). present.replace (a .k) x (share (a .v .now) (l .i))) (l .inv .1 .ahead (l .i) (omega arith))),
     )
 
@@ -62,10 +62,12 @@ returns c =
     let h : a .s ≤ 9 = search needs in
     let v = a .v .now in
     let e : v ≡ held (tabulate (a .s) (share v)) =
-    is-given (a .s) h (share v) v (c .before .before .before .pre .1 .0) (λ i k. refl) (c .before .before .before .pre .1 .1 .past) in
-    turned-all (c .before .loop .inv .1) (c .loop-test .left)
-    ∙ sym (ap (λ (b : List ℕ). shareWise (present.replace (a .k)) (sharing (a .w) (a .s) (a .l .now)) b) e
-    ∙ wise-given (a .s) h (replace-linear (4 * a .k + 4) (a .k) (omega arith)) (shareAt (a .w) (a .l .now)) (share v))
+    is-given (a .s) h (share v) v (c .before .before .before .pre .1 .0) (λ i k. refl) (c .before .before .before .pre .1 .1 .past) in (
+      turned-all (c .before .loop .inv .1) (c .loop-test .left)
+          ∙ sym (ap (λ (b : List ℕ). shareWise (present.replace (a .k)) (sharing (a .w) (a .s) (a .l .now)) b) e
+          ∙ wise-given (a .s) h (replace-linear (4 * a .k + 4) (a .k) (omega arith)) (shareAt (a .w) (a .l .now)) (share v)),
+      c .before .loop .inv .1 .past,
+    )
 
 pub replace-column-spec : {M : Type 1} → statement M
 replace-column-spec =

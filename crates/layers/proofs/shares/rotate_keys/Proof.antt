@@ -11,7 +11,7 @@ use Rattle.layers.proofs.shares.rotate_keys.Statement.{statement}
 use Rattle.layers.proofs.shares.rotate_keys.Tie as tie
 
 abbrev Inv-loop : tie.InvT-loop
-Inv-loop s key₀ i₀ key i = Turned 10 (λ j. present.rotate present.size80 (shareAt 10 key₀ j)) i key₀ key
+Inv-loop s key₀ i₀ key i = Turned 10 s (λ j. present.rotate present.size80 (shareAt 10 key₀ j)) i key₀ key
 
 abbrev μ-loop : tie.MeasureT-loop
 μ-loop s key₀ i₀ key i = s - i
@@ -31,14 +31,16 @@ loop-less c = search needs
 loop-again : tie.Need-loop-again Inv-loop μ-loop
 loop-again c =
     let l = c .before .before .before .loop in
-    turned-more (l .inv) (c .rotate-share .ensures) (ap (present.rotate present.size80) (l .inv .ahead (l .i) (omega arith)))
+    turned-more (l .inv) (search needs) (c .rotate-share .ensures) (ap (present.rotate present.size80) (l .inv .ahead (l .i) (omega arith)))
 
 returns : tie.Need-returns Inv-loop μ-loop
 unfolding sharing sharesOf
 returns c =
-    let a = c .before .before .args in
-    turned-all (c .before .loop .inv) (c .loop-test .left)
-    ∙ sym (map-given (a .s) (search needs) (rotate-linear present.size80 sound80) (shareAt 10 (a .key .now)))
+    let a = c .before .before .args in (
+      turned-all (c .before .loop .inv) (c .loop-test .left)
+          ∙ sym (map-given (a .s) (search needs) (rotate-linear present.size80 sound80) (shareAt 10 (a .key .now))),
+      c .before .loop .inv .past,
+    )
 
 pub rotate-keys-spec : {M : Type 1} → statement M
 rotate-keys-spec =

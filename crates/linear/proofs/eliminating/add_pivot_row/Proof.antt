@@ -5,7 +5,7 @@ use native.Mathlib.Omega.{arith}
 use borrow.Author.Needs.{needs}
 use Rattle.linear.specs.Buffer.{from}
 use Rattle.linear.specs.Scalars.{scalars}
-use Rattle.linear.proofs.Buffer.{filled-values, row-room}
+use Rattle.linear.proofs.Buffer.{overwritten-values, row-room}
 use Rattle.linear.proofs.Turns.{pivot-added-row}
 use Rattle.linear.proofs.eliminating.add_pivot_row.Statement.{statement}
 use Rattle.linear.proofs.eliminating.add_pivot_row.Tie as tie
@@ -52,7 +52,7 @@ returns c =
     let S = scalars (s .args .width) in
     pivot-added-row (s .args .rows) (s .args .columns) (s .args .rank) (s .args .pivot)
     (c .before .before .before .before .before .before .before .before .before .if1 .taken)
-    (filled-values (c .before .before .add-multiple .ensures) (λ k l. ap
+    (overwritten-values (c .before .before .add-multiple .ensures) (λ k l. ap
     (λ (y : ℕ). S .add (from (s .args .matrix .now) (s .args .rank * s .args .columns) k) (S .mul 1 y)) (w .ensures .at k l)))
 
 returns-2 : tie.Need-returns-2

@@ -8,7 +8,7 @@ use Rattle.linear.specs.Buffer.{cell, from}
 use Rattle.linear.specs.Elimination.{Cleared}
 use Rattle.linear.specs.Row.{Agree}
 use Rattle.linear.specs.Scalars.{scalars}
-use Rattle.linear.proofs.Buffer.{filled-values, row-room}
+use Rattle.linear.proofs.Buffer.{overwritten-values, row-room}
 use Rattle.linear.proofs.Steps.{cleared-none}
 use Rattle.linear.proofs.Turns.{cleared-more, cleared-skip}
 use Rattle.linear.proofs.eliminating.clear_rows.Statement.{statement}
@@ -70,7 +70,7 @@ loop-again c =
       omega arith,
       ap length (v .6) ∙ v .3 .kept .1 .0 ∙ at-loop .loop .inv .1,
       rw (v .6) (cleared-more (s .args .matrix .now) (s .args .rows) w (s .args .column) (s .args .rank) i (s .pre .1 .1) im (v .0 .taken) x
-          (filled-values (v .3 .ensures) (λ k h. ap (λ (y : ℕ). S .add (from l (i * w) k) (S .mul (cell w l i (s .args .column)) y))
+          (overwritten-values (v .3 .ensures) (λ k h. ap (λ (y : ℕ). S .add (from l (i * w) k) (S .mul (cell w l i (s .args .column)) y))
           (same .at k h)))),
     ))
     (λ v. (omega arith, ap length (v .1) ∙ at-loop .loop .inv .1, rw (v .1) (cleared-skip (v .0 .left) x)))

@@ -1,26 +1,26 @@
--- `linear::add_multiple` meets its contract. The invariant: the first k bytes of the row at a are the sums, and all else is as it was (`Filled`).
+-- `linear::add_multiple` meets its contract. The invariant: the first k bytes of the row at a are the sums, and all else is as it was (`Overwritten`).
 use mathlib.Core.Path.{_≡_, refl, _∙_, ap₂}
 use Prim.Native.Nat.{_-_, _≤_, _+_}
 use native.Mathlib.Omega.{arith}
 use lib.ListN.{getD, length, length-set}
 use Rattle.xor.proofs.Xor.{⊕-is}
-use Rattle.linear.specs.Buffer.{Filled, from}
+use Rattle.linear.specs.Buffer.{Overwritten, from}
 use Rattle.linear.specs.Row.{plus, times}
 use Rattle.linear.specs.Scalars.{scalars}
-use Rattle.linear.proofs.Buffer.{filled-none, filled-more}
+use Rattle.linear.proofs.Buffer.{overwritten-none, overwritten-more}
 use Rattle.linear.proofs.rows.add_multiple.Statement.{statement}
 use Rattle.linear.proofs.rows.add_multiple.Tie as tie
 
 abbrev Inv-loop : tie.InvT-loop
 Inv-loop width matrix₀ columns a row f k₀ matrix k =
     (k ≤ columns) × (length matrix ≡ length matrix₀)
-    × Filled matrix₀ matrix a k (plus (scalars width) (from matrix₀ a) (times (scalars width) f (λ j. getD row j 0)))
+    × Overwritten matrix₀ matrix a k (plus (scalars width) (from matrix₀ a) (times (scalars width) f (λ j. getD row j 0)))
 
 abbrev μ-loop : tie.MeasureT-loop
 μ-loop width matrix₀ columns a row f k₀ matrix k = columns - k
 
 loop-holds : tie.Need-loop-holds Inv-loop μ-loop
-loop-holds c = (omega arith, refl, filled-none (c .before .before .args .matrix .now) (c .before .before .args .a) _)
+loop-holds c = (omega arith, refl, overwritten-none (c .before .before .args .matrix .now) (c .before .before .args .a) _)
 
 shared-slice-read-x : tie.Need-shared-slice-read-x Inv-loop μ-loop
 shared-slice-read-x c = omega arith
@@ -55,7 +55,7 @@ loop-again c =
     let u = at-loop .loop .inv .2 in (
       omega arith,
       length-set l (s .args .a + k) _ ∙ at-loop .loop .inv .1,
-      filled-more u (omega (arith, s .pre .1 .0)) _
+      overwritten-more u (omega (arith, s .pre .1 .0)) _
           (⊕-is (getD l (s .args .a + k) 0) (c .mul .result)
           ∙ ap₂ (scalars (s .args .width) .add) (u .high (s .args .a + k) (omega arith)) (c .mul .ensures)),
     )

@@ -1,23 +1,23 @@
--- `linear::scale_row` meets its contract. The invariant: the first k bytes of the row at a are the products, and all else is as it was (`Filled`).
+-- `linear::scale_row` meets its contract. The invariant: the first k bytes of the row at a are the products, and all else is as it was (`Overwritten`).
 use mathlib.Core.Path.{_≡_, refl, ap, _∙_}
 use Prim.Native.Nat.{_+_, _-_, _≤_}
 use native.Mathlib.Omega.{arith}
 use lib.ListN.{length, length-set}
-use Rattle.linear.specs.Buffer.{from, Filled}
+use Rattle.linear.specs.Buffer.{from, Overwritten}
 use Rattle.linear.specs.Row.{times}
 use Rattle.linear.specs.Scalars.{scalars}
-use Rattle.linear.proofs.Buffer.{filled-none, filled-more}
+use Rattle.linear.proofs.Buffer.{overwritten-none, overwritten-more}
 use Rattle.linear.proofs.rows.scale_row.Statement.{statement}
 use Rattle.linear.proofs.rows.scale_row.Tie as tie
 
 abbrev Inv-loop : tie.InvT-loop
-Inv-loop n l₀ w a f k₀ l k = (k ≤ w) × (length l ≡ length l₀) × Filled l₀ l a k (times (scalars n) f (from l₀ a))
+Inv-loop n l₀ w a f k₀ l k = (k ≤ w) × (length l ≡ length l₀) × Overwritten l₀ l a k (times (scalars n) f (from l₀ a))
 
 abbrev μ-loop : tie.MeasureT-loop
 μ-loop n l₀ w a f k₀ l k = w - k
 
 loop-holds : tie.Need-loop-holds Inv-loop μ-loop
-loop-holds c = (omega arith, refl, filled-none (c .before .args .matrix .now) (c .before .args .a) _)
+loop-holds c = (omega arith, refl, overwritten-none (c .before .args .matrix .now) (c .before .args .a) _)
 
 add-x : tie.Need-add-x Inv-loop μ-loop
 add-x c = omega arith
@@ -50,7 +50,7 @@ loop-again c =
     let u = at-loop .loop .inv .2 in (
       omega arith,
       length-set (at-loop .loop .matrix) (at-start .args .a + k) _ ∙ at-loop .loop .inv .1,
-      filled-more u (omega arith) _ (c .mul .ensures ∙ ap (scalars (at-start .args .width) .mul (at-start .args .f))
+      overwritten-more u (omega arith) _ (c .mul .ensures ∙ ap (scalars (at-start .args .width) .mul (at-start .args .f))
           (u .high (at-start .args .a + k) (omega arith))),
     )
 

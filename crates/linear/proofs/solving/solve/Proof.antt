@@ -1,4 +1,4 @@
--- `linear::solve` meets its contract. What the reduced matrix says of the one that came in: `read-fitted` and `read-none`.
+-- `linear::solve` meets its contract. What the reduced matrix says of the one that came in: `read-off-canonical` and `read-off-none`.
 use mathlib.Core.Path.{refl}
 use Prim.Native.Nat.{_+_}
 use native.Mathlib.Omega.{arith}

@@ -4,7 +4,7 @@ use Prim.Native.Nat.{_-_}
 use native.Mathlib.Omega.{arith}
 use borrow.Author.Needs.{needs}
 use lib.ListN.{length, set, length-set}
-use Rattle.steps.specs.Program.{done, _>>=_}
+use Rattle.steps.specs.Program.{return, _>>=_}
 use Rattle.steps.specs.Tape.{elements}
 use Rattle.steps.specs.Loop.{Going, each}
 use Rattle.steps.proofs.Loop.{going, going-ready, going-on, gone, each-turn, each-end}
@@ -18,7 +18,7 @@ use Rattle.sbox.proofs.product_rows.totals.Tie as tie
 abbrev Inv-loop : tie.InvT-loop
 Inv-loop width s h z random watch values₀ t c₀ n₀ i₀ values c n i =
     (length c ≡ 9)
-    × Going (λ i. 0) (λ i. 0) (each (totalSteps h) s) (elements width random) watch (λ i c. spec.totalShare h z t i >>= (λ v. done (set c i v))) 0 s c₀ n₀ values₀
+    × Going (λ i. 0) (λ i. 0) (each (totalSteps h) s) (elements width random) watch (λ i c. spec.totalShare h z t i >>= (λ v. return (set c i v))) 0 s c₀ n₀ values₀
     i c n values
 
 abbrev μ-loop : tie.MeasureT-loop

@@ -1,0 +1,158 @@
+-- DONE OR REFUSED. No operation refuses with the number 0; so the first of the four words is 0 if and only if the operation is done.
+use mathlib.Core.Path.{_≡_, refl}
+use mathlib.Core.Bool.{Bool, true, false}
+use mathlib.Core.List.{List, [], _∷_, _++_}
+use Prim.Native.Nat.{ℕ, _<_, _+_, _-_, _*_, _^_}
+use native.Mathlib.Omega.{arith}
+use lib.Dec.{leb, eqb}
+use lib.ListN.{length, getD, drop}
+use Rattle.refusal.specs.Outcome.{Outcome, done, refused, test, andThen}
+use Rattle.refusal.specs.Range.{oneTo}
+use Rattle.refusal.specs.Large.{firstLarge, testBelow}
+use Rattle.refusal.specs.Watch.{listFits, testSteps}
+use Rattle.steps.specs.Tape.{elements, bytesFor}
+use Rattle.steps.specs.Operations.{splitOutcome, joinOutcome}
+use Rattle.decomposition.specs.Record.{readOutcome, widthOf, marked}
+use Rattle.decomposition.specs.Check.{checkOutcome, checkAt, firstDifference, recordForm}
+use Rattle.decomposition.specs.Fit.{FitCall, fitOutcome, allTests}
+use Rattle.decomposition.specs.Layout.{layout, known}
+use Rattle.decomposition.specs.Solution.{solvable}
+use Rattle.sbox.specs.Figures.{sboxDraws, sboxSteps}
+use Rattle.sbox.specs.Operations as sbox
+use Rattle.cipher.specs.Figures.{blockDraws, blockSteps}
+use Rattle.cipher.specs.Operations as cipher
+use Rattle.capi.specs.Words.{words, Told}
+
+-- a test whose number is not 0, before tests of which the same is said
+told-test : (b : Bool) (number place : ℕ) (next : Outcome) → 0 < number → Told next → Told (test b number place next)
+told-test true number place next h t = t
+told-test false number place next h t = h
+
+told-then : (o next : Outcome) → Told o → Told next → Told (andThen o next)
+told-then (done numbers) next t u = u
+told-then (refused number place) next t u = t
+
+told-below : (bound a : ℕ) (l : List ℕ) (next : Outcome) → Told next → Told (testBelow bound a l next)
+told-below bound a l next t = told-test (leb (length l) (firstLarge bound l)) 3 (a + firstLarge bound l) next (omega arith) t
+
+told-steps : (total : ℕ) (list : List ℕ) (next : Outcome) → Told next → Told (testSteps total list next)
+told-steps total list next t = told-test (leb (length list) (firstLarge total list)) 8 (firstLarge total list) next (omega arith) t
+
+-- ---- the operations
+
+pub read-told : (r : List ℕ) → Told (readOutcome r)
+unfolding readOutcome
+read-told r =
+    let L = layout (widthOf r) in
+    told-test (leb 6 (length r)) 2 0 _ (omega arith)
+    (told-test (marked r) 5 0 _ (omega arith)
+    (told-test (known (widthOf r)) 1 0 _ (omega arith)
+    (told-test (eqb (length r) (L .size)) 2 0 _ (omega arith)
+    (told-below (L .inputs) 6 (drop 6 r) (done (L .width ∷ [])) tt))))
+
+pub check-told : (r table : List ℕ) → Told (checkOutcome r table)
+unfolding checkOutcome
+check-told r table =
+    let L = layout (widthOf r) in
+    let first = firstDifference (recordForm L r) table in
+    told-then (readOutcome r) (checkAt L r table) (read-told r)
+    (told-test (eqb (length table) (L .inputs)) 2 0 _ (omega arith)
+    (told-below (L .inputs) 0 table _
+    (told-test (leb (length table) first) 6 first (done []) (omega arith) tt)))
+
+pub fit-told : (n : ℕ) (c : FitCall) → Told (fitOutcome n c)
+unfolding fitOutcome
+fit-told n c =
+    let L = layout n in
+    told-then (allTests n c) (test (solvable L (c .table) (c .basis)) 4 0 (done []))
+    (told-test (known n) 1 0 _ (omega arith)
+    (told-test (eqb (length (c .table)) (L .inputs)) 2 0 _ (omega arith)
+    (told-test (eqb (length (c .basis)) (L .basis)) 2 0 _ (omega arith)
+    (told-test (eqb (length (c .work)) (L .work)) 2 0 _ (omega arith)
+    (told-test (eqb (length (c .out)) (L .size)) 2 0 _ (omega arith)
+    (told-below (L .inputs) 0 (c .table ++ c .basis) (done []) tt))))))
+    (told-test (solvable L (c .table) (c .basis)) 4 0 (done []) (omega arith) tt)
+
+sbox-tests-told : (r : List ℕ) (s : ℕ) (shares random : List ℕ) (fits : Bool) → Told (sbox.callTests r s shares random fits)
+unfolding sbox.callTests sbox.argumentTests
+sbox-tests-told r s shares random fits =
+    let n = widthOf r in
+    told-then (readOutcome r) (sbox.argumentTests n s shares random fits) (read-told r)
+    (told-test (oneTo 9 s) 7 0 _ (omega arith)
+    (told-test (eqb (length shares) s) 2 0 _ (omega arith)
+    (told-test (eqb (length random) (bytesFor n (sboxDraws n s))) 2 0 _ (omega arith)
+    (told-test fits 2 0 _ (omega arith)
+    (told-below (2 ^ n) 0 (shares ++ elements n random) (done (n ∷ [])) tt)))))
+
+pub sbox-told : (r : List ℕ) (s : ℕ) (shares random : List ℕ) (out : ℕ) → Told (sbox.sboxOutcome r s shares random out)
+unfolding sbox.sboxOutcome
+sbox-told r s shares random out =
+    told-then (sbox.callTests r s shares random (eqb out s)) (done (sbox.callCounts r s shares random)) (sbox-tests-told r s shares random (eqb out s)) tt
+
+pub sbox-watch-told : (r : List ℕ) (s : ℕ) (shares random list : List ℕ) (values : ℕ) → Told (sbox.watchOutcome r s shares random list values)
+unfolding sbox.watchOutcome
+sbox-watch-told r s shares random list values =
+    let fits = listFits (length list) values in
+    let end = done (sbox.callCounts r s shares random) in
+    told-then (sbox.callTests r s shares random fits) (testSteps (sboxSteps (widthOf r) s) list end) (sbox-tests-told r s shares random fits)
+    (told-steps (sboxSteps (widthOf r) s) list end tt)
+
+record-told : (r : List ℕ) → Told (cipher.recordTests r)
+unfolding cipher.recordTests
+record-told r =
+    told-then (readOutcome r) (test (eqb (widthOf r) 4) 1 0 (test (cipher.computesTable r) 6 0 (done []))) (read-told r)
+    (told-test (eqb (widthOf r) 4) 1 0 _ (omega arith)
+    (told-test (cipher.computesTable r) 6 0 (done []) (omega arith) tt))
+
+block-tests-told : (r : List ℕ) (s : ℕ) (key block random : List ℕ) (fits : Bool) → Told (cipher.callTests r s key block random fits)
+unfolding cipher.callTests cipher.argumentTests
+block-tests-told r s key block random fits =
+    told-then (cipher.recordTests r) (cipher.argumentTests s key block random fits) (record-told r)
+    (told-test (oneTo 9 s) 7 0 _ (omega arith)
+    (told-test (eqb (length key) (10 * s)) 2 0 _ (omega arith)
+    (told-test (eqb (length block) (8 * s)) 2 0 _ (omega arith)
+    (told-test (eqb (length random) (bytesFor 4 (blockDraws s))) 2 0 _ (omega arith)
+    (told-test fits 2 0 _ (omega arith)
+    (told-below 16 0 (elements 4 random) (done []) tt))))))
+
+pub block-told : (r : List ℕ) (s : ℕ) (key block random : List ℕ) (out : ℕ) → Told (cipher.blockOutcome r s key block random out)
+unfolding cipher.blockOutcome
+block-told r s key block random out =
+    told-then (cipher.callTests r s key block random (eqb out (8 * s))) (done (cipher.callCounts r s key block random))
+    (block-tests-told r s key block random (eqb out (8 * s))) tt
+
+pub block-watch-told : (r : List ℕ) (s : ℕ) (key block random list : List ℕ) (values : ℕ) → Told (cipher.watchOutcome r s key block random list values)
+unfolding cipher.watchOutcome
+block-watch-told r s key block random list values =
+    let fits = listFits (length list) values in
+    let end = done (cipher.callCounts r s key block random) in
+    told-then (cipher.callTests r s key block random fits) (testSteps (blockSteps s) list end) (block-tests-told r s key block random fits)
+    (told-steps (blockSteps s) list end tt)
+
+pub split-told : (value s masks out : ℕ) → Told (splitOutcome value s masks out)
+unfolding splitOutcome
+split-told value s masks out =
+    told-test (oneTo 9 s) 7 0 _ (omega arith)
+    (told-test (oneTo 16 value) 2 0 _ (omega arith)
+    (told-test (eqb masks ((s - 1) * value)) 2 0 _ (omega arith)
+    (told-test (eqb out (s * value)) 2 0 (done []) (omega arith) tt)))
+
+pub join-told : (shares s out : ℕ) → Told (joinOutcome shares s out)
+unfolding joinOutcome
+join-told shares s out =
+    told-test (oneTo 9 s) 7 0 _ (omega arith)
+    (told-test (oneTo 16 out) 2 0 _ (omega arith)
+    (told-test (eqb shares (s * out)) 2 0 (done []) (omega arith) tt))
+
+-- ---- the first word
+
+-- it is 0 only where the operation is done
+pub zero-done : (o : Outcome) → Told o → getD (words o) 0 0 ≡ 0 → (numbers : List ℕ) × (o ≡ done numbers)
+unfolding words
+zero-done (done numbers) t e = (numbers, refl)
+zero-done (refused number place) t e = absurd (omega arith)
+
+-- and the number of the refusal else
+pub number-refused : (number place : ℕ) → getD (words (refused number place)) 0 0 ≡ number
+unfolding words
+number-refused number place = refl

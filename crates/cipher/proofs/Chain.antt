@@ -1,0 +1,61 @@
+-- THE CHAIN. Split, Block and Join, one after the other: for every key and block, all masks and all random elements each of them accepts its call,
+-- and Join writes the eight bytes of the ciphertext.
+use mathlib.Core.Path.{_≡_, sym, ap, ap₂, _∙_}
+use mathlib.Core.List.{List, []}
+use Prim.Native.Nat.{ℕ, _-_, _*_, _≤_, _<_}
+use native.Mathlib.Nat.{mul-comm}
+use native.Mathlib.Omega.{arith}
+use lib.ListN.{length}
+use Rattle.xor.specs.Sum.{Small}
+use Rattle.refusal.specs.Outcome.{done}
+use Rattle.steps.specs.Tape.{elements, bytesFor}
+use Rattle.steps.specs.Operations.{splitShares, splitOutcome, joinShares}
+use Rattle.steps.proofs.Operations.{length-split, split-accepts, join-accepts, join-of-split}
+use Rattle.present.specs.Present.{size80, encrypt}
+use Rattle.present.specs.Bytes.{fromBytes, toBytes}
+use Rattle.cipher.specs.Figures.{figures, blockDraws}
+use Rattle.cipher.specs.Operations.{recordTests, blockOutcome}
+use Rattle.cipher.specs.Chain.{enciphered, Chained}
+use Rattle.cipher.proofs.Bytes.{small-split}
+use Rattle.cipher.proofs.Output.{output-length, join-ciphertext}
+use Rattle.cipher.proofs.Settles.{block-accepts}
+
+-- a value of w bytes, split: how many bytes Split writes, that it accepts the call, and that Join gives the value again
+module _ (w s : ℕ) (some : 0 < s) (value masks : List ℕ) (bytes : length value ≡ w) (masked : length masks ≡ (s - 1) * w) where
+  split-length : length (splitShares s value masks) ≡ s * w
+  split-length = length-split s value masks some (rw bytes masked) ∙ ap (λ (k : ℕ). s * k) bytes
+
+  split-accepted : s ≤ 9 → 0 < w → w ≤ 16 → splitOutcome (length value) s (length masks) (length (splitShares s value masks)) ≡ done []
+  split-accepted nine long short =
+      rw bytes (split-accepts w s (length masks) (length (splitShares s value masks)) some nine long short masked split-length)
+
+  split-joined : joinShares w s (splitShares s value masks) ≡ value
+  split-joined = ap (λ (k : ℕ). joinShares k s (splitShares s value masks)) (sym bytes) ∙ join-of-split s value masks some
+
+-- For every record that passes the tests of Block, 1 to 9 shares, every key of 10 bytes and block of 8, all masks and all random elements.
+pub chained : (r : List ℕ) (s : ℕ) → recordTests r ≡ done [] → 0 < s → s ≤ 9
+    → (key block key-masks block-masks random : List ℕ) → length key ≡ 10 → length block ≡ 8
+    → length key-masks ≡ (s - 1) * 10 → length block-masks ≡ (s - 1) * 8
+    → Small 8 key → Small 8 block → Small 8 key-masks → Small 8 block-masks
+    → length random ≡ bytesFor 4 (blockDraws s) → Small 4 (elements 4 random)
+    → Chained r s key block key-masks block-masks random
+chained r s tests some nine key block km bm random lk lb lkm lbm hk hb hkm hbm lr hr =
+    let ks = splitShares s key km in
+    let xs = splitShares s block bm in
+    let sk = small-split s key km hk hkm in
+    let sx = small-split s block bm hb hbm in
+    let written = enciphered r s key block km bm random in
+    let size : length written ≡ 8 * s = output-length r s ks xs random in
+    let answer : blockOutcome r s ks xs random (8 * s) ≡ done (figures s) =
+    block-accepts r s tests some nine ks xs random sk sx
+    (split-length 10 s some key km lk lkm ∙ mul-comm s 10)
+    (split-length 8 s some block bm lb lbm ∙ mul-comm s 8) lr hr in
+    record {
+      split-key-done = split-accepted 10 s some key km lk lkm nine (omega arith) (omega arith);
+      split-block-done = split-accepted 8 s some block bm lb lbm nine (omega arith) (omega arith);
+      block-done = ap (blockOutcome r s ks xs random) size ∙ answer;
+      join-done = join-accepts (length written) s 8 some nine (omega arith) (omega arith) (size ∙ mul-comm 8 s);
+      join-writes = join-ciphertext r s ks xs random (8 * s) sk sx answer
+          ∙ ap₂ (λ (k x : List ℕ). toBytes 8 (encrypt size80 (fromBytes k) (fromBytes x)))
+          (split-joined 10 s some key km lk lkm) (split-joined 8 s some block bm lb lbm);
+    }

@@ -24,7 +24,7 @@ firstBelow (suc bound) P = cond (P 0) 0 (suc (firstBelow bound (λ k. P (suc k))
 unfoldable pub meets : Layout → List ℕ → List ℕ → List ℕ → Bool
 meets L table basis p = leb (length table) (firstDifference (form L basis p) table)
 
--- how many p there are
+-- how many p there are: each unknown is one of 2 ^ n elements, as many as there are inputs
 unfoldable pub candidates : Layout → ℕ
 candidates L = L .inputs ^ L .unknowns
 

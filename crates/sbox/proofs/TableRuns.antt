@@ -14,7 +14,7 @@ use Rattle.steps.specs.declared.counts.Counts.{Counts}
 use Rattle.steps.specs.Program.{return, _>>=_, note}
 use Rattle.steps.specs.Recorder.{seen, observed}
 use Rattle.steps.specs.Machine.{exec, ended}
-use Rattle.steps.proofs.Machine.{then-runs, done-runs}
+use Rattle.steps.proofs.Machine.{then-runs, return-runs}
 use Rattle.product.specs.Product.{product}
 use Rattle.sbox.specs.Sbox.{constant}
 use Rattle.sbox.specs.Table.{cell, setCell, row, put}
@@ -59,7 +59,7 @@ module _ (tape watch : List ℕ) where
       → exec tape watch (multiplyRows w s x y z t) n vs ≡ ended t′ n′ vs′
   unfolding multiplyRows
   multiply-runs w s x y z t n vs ea eb e et =
-      then-runs tape watch (product w s (row t x) (row t y)) (λ c. return (put s t z c)) n vs (rw (ea, eb) at e) (done-runs tape watch _ _ et)
+      then-runs tape watch (product w s (row t x) (row t y)) (λ c. return (put s t z c)) n vs (rw (ea, eb) at e) (return-runs tape watch _ _ et)
 
 -- a row as a part of the table, lent up to its end
 pub row-part : (t : List ℕ) (r : ℕ) → take (length t - 9 * r) (drop (9 * r) t) ≡ row t r

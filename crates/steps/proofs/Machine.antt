@@ -30,9 +30,9 @@ module _ (tape watch : List ℕ) where
   then-runs m f n vs p q = exec-bind m f n vs ∙ rw p q
 
   -- a program that only ends
-  pub done-runs : {A : Type 0} {x y : A} (n : Counts) (vs : List ℕ) → x ≡ y → exec tape watch (return y) n vs ≡ ended x n vs
+  pub return-runs : {A : Type 0} {x y : A} (n : Counts) (vs : List ℕ) → x ≡ y → exec tape watch (return y) n vs ≡ ended x n vs
   unfolding exec
-  done-runs n vs e = rw e
+  return-runs n vs e = rw e
 
   -- a masked product begins
   pub mark-runs : {A : Type 0} (m : Run A) (n : Counts) (vs : List ℕ) {e : Ended A}

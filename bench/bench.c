@@ -14,10 +14,6 @@
 #include <valgrind/callgrind.h>
 #endif
 
-// The export of crates/bench_product: a slice is a pointer and a length.
-void bench_product(uint32_t width, uint32_t s, const uint8_t *a, size_t a_len, const uint8_t *b, size_t b_len,
-    const uint8_t *random, size_t random_len, uint8_t *out, size_t out_len);
-
 #define BUILD(name) extern const struct plain plain_##name;
 BUILDS
 #undef BUILD
@@ -35,7 +31,7 @@ static struct {
     size_t s;
     struct sizes z;
     size_t turn;
-    uint8_t a[TURNS][SHARES], b[TURNS][SHARES];
+    uint8_t a[TURNS][SHARES];
     uint8_t record[RECORD_6], table[ELEMENTS_6], work[WORK_6];
     uint8_t key[10 * SHARES], block[8 * SHARES], random[527 * SHARES * (SHARES - 1)];
     uint8_t out[RECORD_6];
@@ -53,10 +49,8 @@ static void prepare(unsigned width, size_t s)
         builds[0]->fit(4, in.table, ELEMENTS_4, house_basis, in.z.basis, in.work, in.z.work, in.record, in.z.record);
     } else
         fill_record_6(builds[0], in.record, in.table);
-    for (size_t i = 0; i < TURNS; i++) {
+    for (size_t i = 0; i < TURNS; i++)
         fill_below(1u << width, in.a[i], s);
-        fill_below(1u << width, in.b[i], s);
-    }
     fill_below(256, in.key, 10 * s);
     fill_below(256, in.block, 8 * s);
     fill_below(1u << width, in.random, sizeof in.random);
@@ -70,15 +64,6 @@ static size_t next_turn(void)
 }
 
 // ---- the operations, by the library where `by` is a null pointer, else by that build of the plain C
-
-static void run_product(const struct plain *by)
-{
-    const uint8_t *a = in.a[in.turn], *b = in.b[next_turn()];
-    if (by == NULL)
-        bench_product(in.width, (uint32_t)in.s, a, SHARES, b, SHARES, in.random, pairs(in.s), in.out, SHARES);
-    else
-        by->product(in.width, in.s, a, SHARES, b, SHARES, in.random, pairs(in.s), in.out, SHARES);
-}
 
 static void run_sbox(const struct plain *by)
 {
@@ -134,14 +119,6 @@ struct operation {
 };
 
 static const struct operation operations[] = {
-    {"masked product", run_product, 4, 1, 1.2},
-    {"masked product", run_product, 4, 3, 1.2},
-    {"masked product", run_product, 4, 5, 1.2},
-    {"masked product", run_product, 4, 9, 1.2},
-    {"masked product", run_product, 6, 1, 1.2},
-    {"masked product", run_product, 6, 3, 1.2},
-    {"masked product", run_product, 6, 5, 1.2},
-    {"masked product", run_product, 6, 9, 1.2},
     {"masked S-box", run_sbox, 4, 1, 1.2},
     {"masked S-box", run_sbox, 4, 3, 1.2},
     {"masked S-box", run_sbox, 4, 5, 1.2},

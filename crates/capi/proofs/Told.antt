@@ -2,7 +2,7 @@
 use mathlib.Core.Path.{_≡_, refl}
 use mathlib.Core.Bool.{Bool, true, false}
 use mathlib.Core.List.{List, [], _∷_, _++_}
-use Prim.Native.Nat.{ℕ, _<_, _+_, _-_, _*_, _^_}
+use Prim.Native.Nat.{ℕ, _<_, _+_, _*_, _^_}
 use native.Mathlib.Omega.{arith}
 use lib.Dec.{leb, eqb}
 use lib.ListN.{length, getD, drop}
@@ -10,16 +10,16 @@ use Rattle.refusal.specs.Outcome.{Outcome, done, refused, test, andThen}
 use Rattle.refusal.specs.Range.{oneTo}
 use Rattle.refusal.specs.Large.{firstLarge, testBelow}
 use Rattle.refusal.specs.Watch.{listFits, testSteps}
-use Rattle.steps.specs.Tape.{elements, bytesFor}
-use Rattle.steps.specs.Operations.{splitOutcome, joinOutcome}
+use Rattle.steps.specs.Tape.{elements}
+use Rattle.steps.specs.Call.{Call, callCounts}
+use Rattle.steps.specs.Call as call
+use Rattle.steps.specs.Operations.{splitLengths, splitOutcome, joinLengths, joinOutcome}
 use Rattle.decomposition.specs.Record.{readOutcome, widthOf, marked}
 use Rattle.decomposition.specs.Check.{checkOutcome, checkAt, firstDifference, recordForm}
-use Rattle.decomposition.specs.Fit.{FitCall, fitOutcome, allTests}
+use Rattle.decomposition.specs.Fit.{FitCall, fitLengths, fitOutcome, allTests}
 use Rattle.decomposition.specs.Layout.{layout, known}
 use Rattle.decomposition.specs.Solution.{solvable}
-use Rattle.sbox.specs.Figures.{sboxDraws, sboxSteps}
 use Rattle.sbox.specs.Operations as sbox
-use Rattle.cipher.specs.Figures.{blockDraws, blockSteps}
 use Rattle.cipher.specs.Operations as cipher
 use Rattle.capi.specs.Words.{words, Told}
 
@@ -66,12 +66,20 @@ fit-told n c =
     let L = layout n in
     told-then (allTests n c) (test (solvable L (c .table) (c .basis)) 4 0 (done []))
     (told-test (known n) 1 0 _ (omega arith)
-    (told-test (eqb (length (c .table)) (L .inputs)) 2 0 _ (omega arith)
-    (told-test (eqb (length (c .basis)) (L .basis)) 2 0 _ (omega arith)
-    (told-test (eqb (length (c .work)) (L .work)) 2 0 _ (omega arith)
-    (told-test (eqb (length (c .out)) (L .size)) 2 0 _ (omega arith)
-    (told-below (L .inputs) 0 (c .table ++ c .basis) (done []) tt))))))
+    (told-test (fitLengths L (length (c .table)) (length (c .basis)) (length (c .work)) (length (c .out))) 2 0 _ (omega arith)
+    (told-below (L .inputs) 0 (c .table ++ c .basis) (done []) tt)))
     (told-test (solvable L (c .table) (c .basis)) 4 0 (done []) (omega arith) tt)
+
+-- a masked call whose tests are such, and its watch
+call-told : (c : Call) (fits : Bool) → Told (c .tests fits) → Told (call.callOutcome c fits)
+unfolding call.callOutcome
+call-told c fits t = told-then (c .tests fits) (done (callCounts c)) t tt
+
+watch-told : (c : Call) (list : List ℕ) (values : ℕ) → Told (c .tests (listFits (length list) values)) → Told (call.watchOutcome c list values)
+unfolding call.watchOutcome
+watch-told c list values t =
+    let end = done (callCounts c) in
+    told-then (c .tests (listFits (length list) values)) (testSteps (c .total) list end) t (told-steps (c .total) list end tt)
 
 sbox-tests-told : (r : List ℕ) (s : ℕ) (shares random : List ℕ) (fits : Bool) → Told (sbox.callTests r s shares random fits)
 unfolding sbox.callTests sbox.argumentTests
@@ -79,23 +87,17 @@ sbox-tests-told r s shares random fits =
     let n = widthOf r in
     told-then (readOutcome r) (sbox.argumentTests n s shares random fits) (read-told r)
     (told-test (oneTo 9 s) 7 0 _ (omega arith)
-    (told-test (eqb (length shares) s) 2 0 _ (omega arith)
-    (told-test (eqb (length random) (bytesFor n (sboxDraws n s))) 2 0 _ (omega arith)
-    (told-test fits 2 0 _ (omega arith)
-    (told-below (2 ^ n) 0 (shares ++ elements n random) (done (n ∷ [])) tt)))))
+    (told-test (sbox.sboxLengths n s (length shares) (length random) fits) 2 0 _ (omega arith)
+    (told-below (2 ^ n) 0 (shares ++ elements n random) (done (n ∷ [])) tt)))
 
 pub sbox-told : (r : List ℕ) (s : ℕ) (shares random : List ℕ) (out : ℕ) → Told (sbox.sboxOutcome r s shares random out)
-unfolding sbox.sboxOutcome
-sbox-told r s shares random out =
-    told-then (sbox.callTests r s shares random (eqb out s)) (done (sbox.callCounts r s shares random)) (sbox-tests-told r s shares random (eqb out s)) tt
+unfolding sbox.sboxOutcome sbox.sboxCall
+sbox-told r s shares random out = call-told (sbox.sboxCall r s shares random) (eqb out s) (sbox-tests-told r s shares random (eqb out s))
 
 pub sbox-watch-told : (r : List ℕ) (s : ℕ) (shares random list : List ℕ) (values : ℕ) → Told (sbox.watchOutcome r s shares random list values)
-unfolding sbox.watchOutcome
+unfolding sbox.watchOutcome sbox.sboxCall
 sbox-watch-told r s shares random list values =
-    let fits = listFits (length list) values in
-    let end = done (sbox.callCounts r s shares random) in
-    told-then (sbox.callTests r s shares random fits) (testSteps (sboxSteps (widthOf r) s) list end) (sbox-tests-told r s shares random fits)
-    (told-steps (sboxSteps (widthOf r) s) list end tt)
+    watch-told (sbox.sboxCall r s shares random) list values (sbox-tests-told r s shares random (listFits (length list) values))
 
 record-told : (r : List ℕ) → Told (cipher.recordTests r)
 unfolding cipher.recordTests
@@ -109,40 +111,30 @@ unfolding cipher.callTests cipher.argumentTests
 block-tests-told r s key block random fits =
     told-then (cipher.recordTests r) (cipher.argumentTests s key block random fits) (record-told r)
     (told-test (oneTo 9 s) 7 0 _ (omega arith)
-    (told-test (eqb (length key) (10 * s)) 2 0 _ (omega arith)
-    (told-test (eqb (length block) (8 * s)) 2 0 _ (omega arith)
-    (told-test (eqb (length random) (bytesFor 4 (blockDraws s))) 2 0 _ (omega arith)
-    (told-test fits 2 0 _ (omega arith)
-    (told-below 16 0 (elements 4 random) (done []) tt))))))
+    (told-test (cipher.blockLengths s (length key) (length block) (length random) fits) 2 0 _ (omega arith)
+    (told-below 16 0 (elements 4 random) (done []) tt)))
 
 pub block-told : (r : List ℕ) (s : ℕ) (key block random : List ℕ) (out : ℕ) → Told (cipher.blockOutcome r s key block random out)
-unfolding cipher.blockOutcome
+unfolding cipher.blockOutcome cipher.blockCall
 block-told r s key block random out =
-    told-then (cipher.callTests r s key block random (eqb out (8 * s))) (done (cipher.callCounts r s key block random))
-    (block-tests-told r s key block random (eqb out (8 * s))) tt
+    call-told (cipher.blockCall r s key block random) (eqb out (8 * s)) (block-tests-told r s key block random (eqb out (8 * s)))
 
 pub block-watch-told : (r : List ℕ) (s : ℕ) (key block random list : List ℕ) (values : ℕ) → Told (cipher.watchOutcome r s key block random list values)
-unfolding cipher.watchOutcome
+unfolding cipher.watchOutcome cipher.blockCall
 block-watch-told r s key block random list values =
-    let fits = listFits (length list) values in
-    let end = done (cipher.callCounts r s key block random) in
-    told-then (cipher.callTests r s key block random fits) (testSteps (blockSteps s) list end) (block-tests-told r s key block random fits)
-    (told-steps (blockSteps s) list end tt)
+    watch-told (cipher.blockCall r s key block random) list values (block-tests-told r s key block random (listFits (length list) values))
 
 pub split-told : (value s masks out : ℕ) → Told (splitOutcome value s masks out)
 unfolding splitOutcome
 split-told value s masks out =
     told-test (oneTo 9 s) 7 0 _ (omega arith)
-    (told-test (oneTo 16 value) 2 0 _ (omega arith)
-    (told-test (eqb masks ((s - 1) * value)) 2 0 _ (omega arith)
-    (told-test (eqb out (s * value)) 2 0 (done []) (omega arith) tt)))
+    (told-test (splitLengths value s masks out) 2 0 (done []) (omega arith) tt)
 
 pub join-told : (shares s out : ℕ) → Told (joinOutcome shares s out)
 unfolding joinOutcome
 join-told shares s out =
     told-test (oneTo 9 s) 7 0 _ (omega arith)
-    (told-test (oneTo 16 out) 2 0 _ (omega arith)
-    (told-test (eqb shares (s * out)) 2 0 (done []) (omega arith) tt))
+    (told-test (joinLengths shares s out) 2 0 (done []) (omega arith) tt)
 
 -- ---- the first word
 

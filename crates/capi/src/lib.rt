@@ -9,16 +9,16 @@ ghost use Rattle.decomposition.specs.Fit.{houseCall};
 ghost use Rattle.sbox.specs.Operations.{sboxOutcome, sboxOutput, watchOutcome, watchOutput};
 ghost use Rattle.cipher.specs.Operations.{blockOutcome, blockOutput, watchOutcome as block·watchOutcome, watchOutput as block·watchOutput};
 ghost use Rattle.capi.specs.Words.{words, Reported, ReportedFit};
-use cipher::enciphering::BlockAnswer;
-use cipher::watching::WatchAnswer as BlockWatchAnswer;
+use cipher::BlockAnswer;
+use cipher::WatchAnswer as BlockWatchAnswer;
 use decomposition::CheckAnswer;
 use decomposition::FitAnswer;
 use decomposition::HouseFitAnswer;
 use decomposition::ReadAnswer;
-use sbox::substituting::SboxAnswer;
-use sbox::watching::WatchAnswer;
-use steps::joining::JoinAnswer;
-use steps::splitting::SplitAnswer;
+use sbox::SboxAnswer;
+use sbox::WatchAnswer;
+use steps::JoinAnswer;
+use steps::SplitAnswer;
 
 // Fills the answer.
 fn put(answer: &mut [u64; 4], number: u64, first: u64, second: u64, third: u64)
@@ -107,7 +107,7 @@ pub extern "C" fn ll_sbox(
         (sboxOutput (now («record» .entry)) s (now (shares .entry)) (now (random .entry)))
         (now (out .entry)) (now (answer .exit)) (now (out .exit)) ⌝ }
 {
-    let a = sbox::substituting::sbox(record, s, shares, random, out);
+    let a = sbox::sbox(record, s, shares, random, out);
     match a {
         SboxAnswer::Done {
             products,
@@ -134,7 +134,7 @@ pub extern "C" fn ll_sbox_watch(
         (watchOutput (now («record» .entry)) s (now (shares .entry)) (now (random .entry)) (now (list .entry)))
         (now (values .entry)) (now (answer .exit)) (now (values .exit)) ⌝ }
 {
-    let a = sbox::watching::watch_sbox(record, s, shares, random, list, values);
+    let a = sbox::watch_sbox(record, s, shares, random, list, values);
     match a {
         WatchAnswer::Done {
             products,
@@ -161,7 +161,7 @@ pub extern "C" fn ll_block(
         (blockOutput (now («record» .entry)) s (now («key_shares» .entry)) (now («block_shares» .entry)) (now (random .entry)))
         (now (out .entry)) (now (answer .exit)) (now (out .exit)) ⌝ }
 {
-    let a = cipher::enciphering::block(record, s, key_shares, block_shares, random, out);
+    let a = cipher::block(record, s, key_shares, block_shares, random, out);
     match a {
         BlockAnswer::Done {
             products,
@@ -189,15 +189,7 @@ pub extern "C" fn ll_block_watch(
         (block·watchOutput (now («record» .entry)) s (now («key_shares» .entry)) (now («block_shares» .entry)) (now (random .entry)) (now (list .entry)))
         (now (values .entry)) (now (answer .exit)) (now (values .exit)) ⌝ }
 {
-    let a = cipher::watching::watch_block(
-        record,
-        s,
-        key_shares,
-        block_shares,
-        random,
-        list,
-        values,
-    );
+    let a = cipher::watch_block(record, s, key_shares, block_shares, random, list, values);
     match a {
         BlockWatchAnswer::Done {
             products,
@@ -222,7 +214,7 @@ pub extern "C" fn ll_split(
     ensures { λ u. ⌜ Reported (splitOutcome (length (now (value .entry))) s (length (now (masks .entry))) (length (now (out .entry))))
         (splitShares s (now (value .entry)) (now (masks .entry))) (now (out .entry)) (now (answer .exit)) (now (out .exit)) ⌝ }
 {
-    let a = steps::splitting::split(value, s, masks, out);
+    let a = steps::split(value, s, masks, out);
     match a {
         SplitAnswer::Done => put(answer, 0, 0, 0, 0),
         SplitAnswer::Refused { number, place } => { put(answer, number as u64, place as u64, 0, 0) }
@@ -235,7 +227,7 @@ pub extern "C" fn ll_join(shares: &[u8], s: u32, out: &mut [u8], answer: &mut [u
     ensures { λ u. ⌜ Reported (joinOutcome (length (now (shares .entry))) s (length (now (out .entry))))
         (joinShares (length (now (out .entry))) s (now (shares .entry))) (now (out .entry)) (now (answer .exit)) (now (out .exit)) ⌝ }
 {
-    let a = steps::joining::join(shares, s, out);
+    let a = steps::join(shares, s, out);
     match a {
         JoinAnswer::Done => put(answer, 0, 0, 0, 0),
         JoinAnswer::Refused { number, place } => { put(answer, number as u64, place as u64, 0, 0) }

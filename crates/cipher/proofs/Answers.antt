@@ -1,27 +1,25 @@
 -- ANSWERS ALIKE. Two calls of Block, or of Watch block, with the same record, share count, list and slice lengths, and with random elements that are
 -- too large, if any, at the same places, give the same answer, whatever the shares and the random elements; and what they hand back are the paper's
 -- figures. What is too large is asked only of a record that passes its tests; calls with any other answer alike in any case.
-use mathlib.Core.Path.{_≡_, refl, sym, ap, _∙_}
+use mathlib.Core.Path.{_≡_, refl}
 use mathlib.Core.Bool.{Bool}
 use mathlib.Core.List.{List}
 use Prim.Native.Nat.{ℕ, _*_}
-use lib.Dec.{leb, eqb}
-use lib.ListN.{length, length-replicate}
-use Rattle.xor.specs.Sum.{join, Small}
+use lib.Dec.{eqb}
+use lib.ListN.{length}
+use Rattle.xor.specs.Sum.{Small}
 use Rattle.refusal.specs.Outcome.{Outcome, done, refused, andThen}
 use Rattle.refusal.specs.Large.{firstLarge, LargeAlike}
-use Rattle.refusal.proofs.Outcome.{passed, then-passed, done-values, then-alike}
 use Rattle.refusal.proofs.Large.{large-same}
 use Rattle.steps.specs.Tape.{elements}
+use Rattle.steps.specs.Call.{figuresOf}
 use Rattle.steps.proofs.Tape.{elements-length}
-use Rattle.refusal.specs.Watch.{listFits, testSteps}
-use Rattle.layers.specs.State.{sharesOf}
-use Rattle.cipher.specs.Figures.{blockDraws, blockSteps, figures}
+use Rattle.steps.proofs.Call.{counts-taken, HandsBack, call-answers, call-figures}
+use Rattle.steps.proofs.Call as call
+use Rattle.cipher.specs.Figures.{figures}
 use Rattle.cipher.specs.Alike.{SamePlaces}
-use Rattle.cipher.specs.Operations.{callProgram, callCounts, recordTests, argumentTests, callTests, blockOutcome, watchOutcome}
-use Rattle.cipher.proofs.Calls.{tests-passed, present-record, record-passed}
-use Rattle.cipher.proofs.Output.{shares-sharing}
-use Rattle.cipher.proofs.Theorems.{trace-length, draws-are, products-length}
+use Rattle.cipher.specs.Operations.{blockCall, recordTests, argumentTests, callTests, blockOutcome, watchOutcome}
+use Rattle.cipher.proofs.Calls.{record-passed, tests-passed, call-takes}
 
 -- ---- the tests go by the record, lengths and the places of random elements that are too large
 
@@ -48,62 +46,40 @@ tests-alike r s {key} {key′} {block} {block′} {random} {random′} h fits = 
 
 -- ---- where the tests are passed the figures are the paper's
 
-pub counts-figures : (r : List ℕ) (s : ℕ) (key block random : List ℕ) (fits : Bool) → Small 8 key → Small 8 block
-    → {v : List ℕ} → callTests r s key block random fits ≡ done v → callCounts r s key block random ≡ figures s
-unfolding callTests callCounts callProgram figures
-counts-figures r s key block random fits hk hb e =
-    let a = tests-passed r s key block random fits e .0 in
-    let accepted = present-record r (then-passed (recordTests r) (argumentTests s key block random fits) e .1) in
-    let ks = sharesOf 10 s key in
-    let xs = sharesOf 8 s block in
-    let key-sharing = shares-sharing 10 s key hk in
-    let block-sharing = shares-sharing 8 s block hb in
-    let tape = elements 4 random in
-    let steps = trace-length r accepted s (a .some) (a .nine) (join ks) (join xs) ks xs tape key-sharing block-sharing (a .random-small) in
-    let drawn = ap length (draws-are r accepted s (a .some) (a .nine) (join ks) (join xs) ks xs tape key-sharing block-sharing (a .random-small))
-    ∙ length-replicate (blockDraws s) 4 in
-    let made = products-length r accepted s (a .some) (a .nine) (join ks) (join xs) ks xs tape key-sharing block-sharing (a .random-small) in
-    rw (steps, drawn, made)
-
--- ---- the answers
-
-answers-alike : (r : List ℕ) (s : ℕ) {key key′ block block′ random random′ : List ℕ} → SamePlaces r key key′ block block′ random random′
-    → (fits : Bool) (next : List ℕ → Outcome)
-    → andThen (callTests r s key block random fits) (next (callCounts r s key block random))
-    ≡ andThen (callTests r s key′ block′ random′ fits) (next (callCounts r s key′ block′ random′))
-answers-alike r s {key} {key′} {block} {block′} {random} {random′} h fits next =
-    let same = tests-alike r s h fits in
-    then-alike (callTests r s key block random fits) next (callCounts r s key block random) (callCounts r s key′ block′ random′) same
-    (λ v p. counts-figures r s key block random fits (h .key-bytes) (h .block-bytes) p
-    ∙ sym (counts-figures r s key′ block′ random′ fits (h .key-bytes′) (h .block-bytes′) (sym same ∙ p)))
-
-pub block-answers : (r : List ℕ) (s : ℕ) {key key′ block block′ random random′ : List ℕ} (out : ℕ) → SamePlaces r key key′ block block′ random random′
-    → blockOutcome r s key block random out ≡ blockOutcome r s key′ block′ random′ out
-unfolding blockOutcome
-block-answers r s out h = answers-alike r s h (eqb out (8 * s)) done
-
-pub watch-answers : (r : List ℕ) (s : ℕ) {key key′ block block′ random random′ : List ℕ} (list : List ℕ) (values : ℕ)
-    → SamePlaces r key key′ block block′ random random′
-    → watchOutcome r s key block random list values ≡ watchOutcome r s key′ block′ random′ list values
-unfolding watchOutcome
-watch-answers r s list values h =
-    answers-alike r s h (listFits (length list) values) (λ c. testSteps (blockSteps s) list (done c))
+pub counts-figures : (r : List ℕ) (s : ℕ) (key block random : List ℕ) → Small 8 key → Small 8 block
+    → HandsBack (blockCall r s key block random) (figures s)
+unfolding figures blockCall figuresOf
+counts-figures r s key block random hk hb fits v e =
+    counts-taken (blockCall r s key block random) (call-takes (tests-passed r s key block random fits e .0) hk hb)
 
 -- a call that is done hands back the figures
 pub block-figures : (r : List ℕ) (s : ℕ) (key block random : List ℕ) (out : ℕ) → Small 8 key → Small 8 block
     → {v : List ℕ} → blockOutcome r s key block random out ≡ done v → v ≡ figures s
 unfolding blockOutcome
 block-figures r s key block random out hk hb e =
-    let a = then-passed (callTests r s key block random (eqb out (8 * s))) _ e in
-    done-values (sym (a .2)) ∙ counts-figures r s key block random (eqb out (8 * s)) hk hb (a .1)
+    call-figures (blockCall r s key block random) (counts-figures r s key block random hk hb) (eqb out (8 * s)) e
 
 -- a watch that is done hands back the same
 pub watch-figures : (r : List ℕ) (s : ℕ) (key block random list : List ℕ) (values : ℕ) → Small 8 key → Small 8 block
     → {v : List ℕ} → watchOutcome r s key block random list values ≡ done v → v ≡ figures s
 unfolding watchOutcome
 watch-figures r s key block random list values hk hb e =
-    let fits = listFits (length list) values in
-    let total = blockSteps s in
-    let a = then-passed (callTests r s key block random fits) _ e in
-    let b = passed (leb (length list) (firstLarge total list)) 8 (firstLarge total list) _ (a .2) in
-    done-values (sym (b .1)) ∙ counts-figures r s key block random fits hk hb (a .1)
+    call.watch-figures (blockCall r s key block random) (counts-figures r s key block random hk hb) list values e
+
+-- ---- the answers
+
+module _ (r : List ℕ) (s : ℕ) {key key′ block block′ random random′ : List ℕ} (h : SamePlaces r key key′ block block′ random random′) where
+  pub block-answers : (out : ℕ) → blockOutcome r s key block random out ≡ blockOutcome r s key′ block′ random′ out
+  unfolding blockOutcome blockCall
+  block-answers out =
+      call-answers (blockCall r s key block random) (blockCall r s key′ block′ random′) (tests-alike r s h)
+      (counts-figures r s key block random (h .key-bytes) (h .block-bytes))
+      (counts-figures r s key′ block′ random′ (h .key-bytes′) (h .block-bytes′)) (eqb out (8 * s))
+
+  pub watch-answers : (list : List ℕ) (values : ℕ)
+      → watchOutcome r s key block random list values ≡ watchOutcome r s key′ block′ random′ list values
+  unfolding watchOutcome blockCall
+  watch-answers =
+      call.watch-answers (blockCall r s key block random) (blockCall r s key′ block′ random′) (tests-alike r s h)
+      (counts-figures r s key block random (h .key-bytes) (h .block-bytes))
+      (counts-figures r s key′ block′ random′ (h .key-bytes′) (h .block-bytes′)) refl

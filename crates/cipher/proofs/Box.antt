@@ -1,6 +1,5 @@
 -- The masked S-box of a record of PRESENT's table, as the block needs it: it substitutes, and it hides every share.
-use mathlib.Core.Logic.{inl}
-use mathlib.Core.Path.{_≡_, refl, subst, _∙_}
+use mathlib.Core.Path.{_≡_, subst, _∙_}
 use mathlib.Core.List.{List}
 use Prim.Native.Nat.{ℕ, _^_, _≤_, _<_}
 use Rattle.xor.proofs.Sum.{join-small}
@@ -28,13 +27,13 @@ module _ (r : List ℕ) (accepted : PresentRecord r) (s : ℕ) where
   unfolding substitute
   form-substitutes x h =
       let computes = rw (read-accepted r 4 (accepted .read) .named) at (check-computes r table (accepted .checked)) in
-      record-form 4 (inl refl) r x ∙ computes .equal x (rw (layout-width 4) h)
+      record-form 4 r x ∙ computes .equal x (rw (layout-width 4) h)
 
   pub substitutes : 0 < s → s ≤ 9 → Substitutes substitute s (boxShape s) (recordSbox s r)
   unfolding boxShape
   substitutes some nine x a h =
       let small : x < 2 ^ 4 = subst (λ (v : ℕ). v < 2 ^ 4) (h .joins) (join-small 4 a (h .small)) in
-      let shaped = rw (coefficients .size) at (shaped-sbox (inl refl) s x (basisIn 4 r) (solutionIn 4 r) a some nine (coefficients .coefficients) h) in
+      let shaped = rw (coefficients .size) at (shaped-sbox (coefficients .width) s x (basisIn 4 r) (solutionIn 4 r) a some nine (coefficients .coefficients) h) in
       shaped-weaken shaped (λ c g. rw (form-substitutes x small) at (g .1))
 
   pub hides : (u : ℕ) → Hides u (recordSbox s r)

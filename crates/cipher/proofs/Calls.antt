@@ -1,11 +1,11 @@
 -- The laws of calls: the arguments that pass the tests, and what a run hands back and writes.
-use mathlib.Core.Path.{_≡_, refl, sym, ap, subst, _∙_}
-use mathlib.Core.Bool.{Bool, true, false}
+use mathlib.Core.Path.{_≡_, refl, sym, ap, _∙_}
+use mathlib.Core.Bool.{Bool, true, false, and-eq-true-iff}
 use mathlib.Core.List.{List, [], _∷_}
 use Prim.Native.Nat.{ℕ, _+_, _*_, _≤_, _<_}
 use native.Mathlib.Nat.{mul-le-mul}
 use native.Mathlib.Omega.{arith}
-use borrow.Author.Tests.{eqb-true, leb-true}
+use borrow.Author.Tests.{eqb-true, eq-eqb, leb-true}
 use lib.Dec.{leb, eqb}
 use lib.ListN.{length, drop}
 use Rattle.xor.specs.Sum.{join, Small}
@@ -18,29 +18,29 @@ use Rattle.refusal.proofs.Range.{one-to-range}
 use Rattle.refusal.proofs.Large.{all-small}
 use Rattle.field.proofs.Polynomial.{length-exponents-4}
 use Rattle.steps.specs.declared.counts.Counts.{Counts}
-use Rattle.steps.specs.Program.{result}
 use Rattle.steps.specs.Sharing.{share}
 use Rattle.steps.specs.Tape.{elements, bytesFor}
 use Rattle.steps.specs.Machine.{zeroCounts, Ready, Went, Whole}
-use Rattle.steps.proofs.Machine.{went-watched}
+use Rattle.steps.specs.Call.{callCounts, callResult, Takes}
+use Rattle.steps.proofs.Call as call
 use Rattle.steps.proofs.Fill.{tabulate-same}
-use Rattle.steps.proofs.Tape.{elements-enough}
 use Rattle.decomposition.specs.Layout.{layout, sized, termsOf}
 use Rattle.decomposition.specs.Record.{widthOf, readOutcome, Accepted}
 use Rattle.decomposition.specs.Check.{recordForm, firstDifference, checkOutcome}
 use Rattle.decomposition.proofs.ReadOutcome.{read-values, read-accepted}
-use Rattle.sbox.specs.Operations.{}
 use Rattle.sbox.proofs.Record.{accepted-record}
 use Rattle.sbox.proofs.Runs.{result-sharing, result-places}
-use Rattle.sbox.proofs.Calls.{few-pairs, all-below}
+use Rattle.sbox.proofs.Calls.{few-pairs}
 use Rattle.present.specs.Present.{table}
-use Rattle.layers.specs.State.{shareAt, sharesOf, sharing, bytesOf}
-use Rattle.layers.proofs.View.{share-sharing}
+use Rattle.steps.specs.ShareBytes.{shareAt, sharesOf, sharing, bytesOf}
+use Rattle.steps.proofs.View.{share-sharing}
+use Rattle.steps.proofs.ShareBytes.{shares-sharing}
 use Rattle.cipher.specs.Box.{recordSbox}
 use Rattle.cipher.specs.Rounds.{Closed}
 use Rattle.cipher.specs.Experiment.{PresentRecord}
 use Rattle.cipher.specs.Figures.{blockProducts, blockDraws, blockSteps}
-use Rattle.cipher.specs.Operations.{callProgram, callCounts, computesTable, recordTests, argumentTests, callTests, blockOutput, watchOutput, Callable}
+use Rattle.cipher.proofs.Theorems.{takes}
+use Rattle.cipher.specs.Operations.{callProgram, blockCall, computesTable, recordTests, blockLengths, argumentTests, callTests, blockOutput, watchOutput, Callable}
 
 -- ---- numbers stay small
 
@@ -65,37 +65,6 @@ last-fails false number place e = refl
 last-fails true number place e = let z : _≡_ {A = ℕ} 0 1 = cc in absurd (omega arith)
 
 -- ---- a call that passes the tests
-
-pub tests-passed : (r : List ℕ) (s : ℕ) (key block random : List ℕ) (fits : Bool) {numbers : List ℕ}
-    → callTests r s key block random fits ≡ done numbers
-    → Callable r s key block random × (fits ≡ true)
-unfolding callTests recordTests argumentTests
-tests-passed r s key block random fits e =
-    let a = then-passed (recordTests r) _ e in
-    let b = then-passed (readOutcome r) _ (a .1) in
-    let c = passed (eqb (widthOf r) 4) 1 0 _ (b .2) in
-    let d = passed (computesTable r) 6 0 _ (c .1) in
-    let f = passed (oneTo 9 s) 7 0 _ (a .2) in
-    let g = passed (eqb (length key) (10 * s)) 2 0 _ (f .1) in
-    let h = passed (eqb (length block) (8 * s)) 2 0 _ (g .1) in
-    let i = passed (eqb (length random) (bytesFor 4 (blockDraws s))) 2 0 _ (h .1) in
-    let j = passed fits 2 0 _ (i .1) in
-    let l = elements 4 random in
-    let k = passed (leb (length l) (firstLarge 16 l)) 3 (0 + firstLarge 16 l) _ (j .1) in
-    let range = one-to-range 9 s (f .0) in
-    let four : widthOf r ≡ 4 = eqb-true (widthOf r) 4 (c .0) in (
-      record {
-        accepted = subst (λ (n : ℕ). Accepted n r) four (read-values r (b .1) .0);
-        computes = d .0;
-        some = range .0;
-        nine = range .1;
-        key-length = eqb-true (length key) (10 * s) (g .0);
-        block-length = eqb-true (length block) (8 * s) (h .0);
-        random-length = eqb-true (length random) (bytesFor 4 (blockDraws s)) (i .0);
-        random-small = all-small 16 l (omega arith) (leb-true (length l) (firstLarge 16 l) (k .0));
-      },
-      j .0,
-    )
 
 -- Read and Check accept a record that passes its tests
 pub present-record : (r : List ℕ) {numbers : List ℕ} → recordTests r ≡ done numbers → PresentRecord r
@@ -126,19 +95,64 @@ present-passes r h =
     let c = passed (computesTable r) 6 place (done []) (sym (check-tests r (h .read)) ∙ h .checked) in
     rw (h .read, four, c .0) refl
 
+-- the lengths that a call takes, and that these are all
+call-lengths : (s key block random : ℕ) (fits : Bool) → blockLengths s key block random fits ≡ true
+    → (key ≡ 10 * s) × (block ≡ 8 * s) × (random ≡ bytesFor 4 (blockDraws s)) × (fits ≡ true)
+unfolding blockLengths
+call-lengths s key block random fits e =
+    let a = and-eq-true-iff (eqb key (10 * s)) _ .0 e in
+    let b = and-eq-true-iff (eqb block (8 * s)) _ .0 (a .1) in
+    let c = and-eq-true-iff (eqb random (bytesFor 4 (blockDraws s))) fits .0 (b .1) in
+    (eqb-true _ _ (a .0), eqb-true _ _ (b .0), eqb-true _ _ (c .0), c .1)
+
+pub call-lengths-right : (s key block random : ℕ) (fits : Bool)
+    → key ≡ 10 * s → block ≡ 8 * s → random ≡ bytesFor 4 (blockDraws s) → fits ≡ true → blockLengths s key block random fits ≡ true
+unfolding blockLengths
+call-lengths-right s key block random fits ek eb er ef =
+    rw (eq-eqb key (10 * s) ek, eq-eqb block (8 * s) eb, eq-eqb random (bytesFor 4 (blockDraws s)) er, ef) refl
+
+-- where the tests are passed, so is each of them
+pub tests-passed : (r : List ℕ) (s : ℕ) (key block random : List ℕ) (fits : Bool) {numbers : List ℕ}
+    → callTests r s key block random fits ≡ done numbers
+    → Callable r s key block random × (fits ≡ true)
+unfolding callTests argumentTests
+tests-passed r s key block random fits e =
+    let a = then-passed (recordTests r) _ e in
+    let f = passed (oneTo 9 s) 7 0 _ (a .2) in
+    let g = passed (blockLengths s (length key) (length block) (length random) fits) 2 0 _ (f .1) in
+    let lengths = call-lengths s (length key) (length block) (length random) fits (g .0) in
+    let l = elements 4 random in
+    let k = passed (leb (length l) (firstLarge 16 l)) 3 (0 + firstLarge 16 l) _ (g .1) in
+    let range = one-to-range 9 s (f .0) in (
+      record {
+        present = present-record r (a .1);
+        some = range .0;
+        nine = range .1;
+        key-length = lengths .0;
+        block-length = lengths .1;
+        random-length = lengths .2;
+        random-small = all-small 16 l (omega arith) (leb-true (length l) (firstLarge 16 l) (k .0));
+      },
+      lengths .3,
+    )
+
 -- ---- its run
 
 module _ {r : List ℕ} {s : ℕ} {key block random : List ℕ} (a : Callable r s key block random) where
-  -- the record is as long as the code asks
+  -- the record
+  accepted : Accepted 4 r
+  accepted = read-accepted r 4 (a .present .read)
+
+  -- it is as long as the code asks
   pub record-room : 33 ≤ length r
   unfolding layout sized termsOf
-  record-room = omega (arith, a .accepted .whole, length-exponents-4)
+  record-room = omega (arith, accepted .whole, length-exponents-4)
 
   -- the S-box takes sharings of nibbles to sharings of nibbles
   pub call-closed : Closed s (elements 4 random) (recordSbox s r)
   call-closed =
       let tape = elements 4 random in
-      let coefficients = accepted-record 4 r (a .accepted) in
+      let coefficients = accepted-record 4 r accepted in
       let small : (d : ℕ) → Small 4 (drop d tape) = λ d. small-drop 4 d tape (a .random-small) in
       record {
         places = λ x d h. result-places coefficients s (join x) x (drop d tape) (a .some) (a .nine) h (small d);
@@ -146,35 +160,44 @@ module _ {r : List ℕ} {s : ℕ} {key block random : List ℕ} (a : Callable r 
             record { small = k .small; past = k .past; joins = refl };
       }
 
-  pub call-ready : {watch vs : List ℕ} → length watch ≡ length vs
-      → Ready blockProducts (blockDraws s) (blockSteps s) zeroCounts (elements 4 random) watch vs
-  call-ready e =
-      let few = few-taken s (a .nine) in
-      let enough = elements-enough 4 random (blockDraws s) (a .random-length) in
-      record { products-fit = omega arith; draws-fit = omega arith; steps-fit = omega arith; enough = omega arith; places = e }
+  -- what a call takes, of shares that are bytes
+  module _ (hk : Small 8 key) (hb : Small 8 block) where
+    pub call-takes : Takes (callProgram r s key block) (elements 4 random) blockProducts (blockDraws s) (blockSteps s)
+    unfolding callProgram
+    call-takes =
+        let ks = sharesOf 10 s key in
+        let xs = sharesOf 8 s block in
+        takes r (a .present) s (a .some) (a .nine) (join ks) (join xs) ks xs (elements 4 random) (shares-sharing 10 s key hk)
+        (shares-sharing 8 s block hb) (a .random-small)
+
+    -- it may run
+    pub call-ready : {watch vs : List ℕ} → length watch ≡ length vs → Ready (elements 4 random) watch (callProgram r s key block) zeroCounts vs
+    unfolding blockCall
+    call-ready e =
+        let few = few-taken s (a .nine) in
+        call.call-ready (blockCall r s key block random) call-takes (omega arith) (omega arith) (omega arith) (a .random-length) e
+
+    -- what a watch leaves, where each number of the list is that of a step
+    some-steps : 0 < blockSteps s
+    unfolding blockSteps
+    some-steps = omega (arith, a .some)
+
+    pub call-watched : {list vs x vs′ : List ℕ} {c : Counts} → length list ≡ length vs → length list ≤ firstLarge (blockSteps s) list
+        → Went (elements 4 random) list (callProgram r s key block) zeroCounts vs x c vs′ → vs′ ≡ watchOutput r s key block random list
+    unfolding watchOutput blockCall
+    call-watched e below w = call.call-watched (blockCall r s key block random) call-takes some-steps e below w
 
   -- what a call's run hands back and writes
   pub call-counts : {x : List ℕ} {c : Counts} → Whole (elements 4 random) (callProgram r s key block) x c
-      → callCounts r s key block random ≡ c .products ∷ bytesFor 4 (c .random) ∷ c .steps ∷ []
-  unfolding callCounts
-  call-counts w = rw (← (w .products-are), ← (w .draws-are), ← (w .steps-are))
+      → callCounts (blockCall r s key block random) ≡ c .products ∷ bytesFor 4 (c .random) ∷ c .steps ∷ []
+  unfolding blockCall
+  call-counts w = call.call-counts (blockCall r s key block random) w
 
   pub call-output : (l : List ℕ) {c : Counts} → Whole (elements 4 random) (callProgram r s key block) (sharing 8 s l) c
       → bytesOf 8 (sharesOf 8 s l) ≡ blockOutput r s key block random
-  unfolding blockOutput sharesOf
+  unfolding blockOutput sharesOf blockCall
   call-output l w =
+      let e : sharing 8 s l ≡ callResult (blockCall r s key block random) = call.call-result (blockCall r s key block random) w in
       ap (bytesOf 8)
-      (tabulate-same s (shareAt 8 l) (share (result (callProgram r s key block) (elements 4 random)))
-      (λ i h. sym (share-sharing 8 s l i (a .nine) h) ∙ ap (λ (x : List ℕ). share x i) (w .result-is)))
-
-  -- what a watch leaves, where each number of the list is that of a step
-  some-steps : 0 < blockSteps s
-  unfolding blockSteps
-  some-steps = omega arith
-
-  pub call-watched : {list vs x vs′ : List ℕ} {c : Counts} → length list ≡ length vs → length list ≤ firstLarge (blockSteps s) list
-      → Went blockProducts (blockDraws s) (blockSteps s) (elements 4 random) list (callProgram r s key block) zeroCounts vs x c vs′
-      → vs′ ≡ watchOutput r s key block random list
-  unfolding watchOutput
-  call-watched {list} e below w =
-      went-watched w e (all-below (blockSteps s) list (all-small (blockSteps s) list some-steps below))
+      (tabulate-same s (shareAt 8 l) (share (callResult (blockCall r s key block random)))
+      (λ i h. sym (share-sharing 8 s l i (a .nine) h) ∙ ap (λ (x : List ℕ). share x i) e))

@@ -12,11 +12,11 @@ use Rattle.steps.specs.Tape.{elements, bytesFor}
 use Rattle.steps.specs.Operations.{splitShares, splitOutcome, joinShares}
 use Rattle.steps.proofs.Operations.{length-split, split-accepts, join-accepts, join-of-split}
 use Rattle.present.specs.Present.{size80, encrypt}
-use Rattle.present.specs.Bytes.{fromBytes, toBytes}
+use Rattle.steps.specs.Bytes.{fromBytes, toBytes}
 use Rattle.cipher.specs.Figures.{figures, blockDraws}
 use Rattle.cipher.specs.Operations.{recordTests, blockOutcome}
 use Rattle.cipher.specs.Chain.{enciphered, Chained}
-use Rattle.cipher.proofs.Bytes.{small-split}
+use Rattle.steps.proofs.ShareBytes.{small-split}
 use Rattle.cipher.proofs.Output.{output-length, join-ciphertext}
 use Rattle.cipher.proofs.Settles.{block-accepts}
 

@@ -1,10 +1,8 @@
-pub mod Figures
 pub mod Runs
 pub mod Nibbles
-pub mod Calls
 pub mod Box
 pub mod Theorems
-pub mod Bytes
+pub mod Calls
 pub mod Output
 pub mod Answers
 pub mod Watched

@@ -8,20 +8,21 @@ use Rattle.xor.proofs.Sum.{additive-below-zero}
 use Rattle.field.specs.Polynomial.{exponents}
 use Rattle.field.proofs.Polynomial.{length-exponents-4}
 use Rattle.steps.specs.declared.counts.Counts.{Counts}
-use Rattle.steps.specs.Program.{Run, result}
+use Rattle.steps.specs.Program.{Run, return, result}
 use Rattle.steps.specs.Sharing.{share, Sharing}
-use Rattle.steps.specs.Machine.{Went}
+use Rattle.steps.specs.Machine.{Ready, Went}
 use Rattle.steps.proofs.Machine.{exec-whole}
 use Rattle.decomposition.specs.Layout.{termsOf}
 use Rattle.sbox.specs.Form.{basisSize}
 use Rattle.present.specs.Present.{nibble, replace}
-use Rattle.present.specs.Masked.{shareWise, maskedNibble}
+use Rattle.present.specs.Masked.{maskedNibble}
+use Rattle.steps.specs.Sharing.{shareWise}
 use Rattle.present.proofs.Numbers.{nibble-lt, nibble-linear}
-use Rattle.present.proofs.Sharing.{share-map}
-use Rattle.layers.specs.State.{shareAt, sharesOf, sharing}
-use Rattle.layers.proofs.View.{share-past}
+use Rattle.steps.proofs.ShareWise.{share-map}
+use Rattle.steps.specs.ShareBytes.{shareAt, sharesOf, sharing}
+use Rattle.steps.proofs.View.{share-past}
 use Rattle.cipher.specs.Rounds.{Closed}
-use Rattle.steps.proofs.Parts.{went-map}
+use Rattle.steps.proofs.Parts.{ready-first, went-map}
 
 -- a record of width 4 has 33 bytes
 pub record-bytes : {n : ℕ} → 33 ≤ n → 6 + (basisSize 4 + (basisSize 4 + 1)) * length (exponents 4) ≤ n
@@ -40,15 +41,21 @@ column-sharing w s k l nine =
       joins = refl;
     }
 
-module _ {p q r : ℕ} {tape watch : List ℕ} {n : Counts} {vs : List ℕ} {n′ : Counts} {vs′ : List ℕ} where
+-- the S-box may run on nibble k of each share
+pub nibble-ready : (box : List ℕ → Run (List ℕ)) (k : ℕ) (a x : List ℕ) {tape watch : List ℕ} {n : Counts} {vs : List ℕ}
+    → x ≡ map (nibble k) a → Ready tape watch (maskedNibble box k a) n vs → Ready tape watch (box x) n vs
+unfolding maskedNibble
+nibble-ready box k a x e y = rw e (ready-first (box (map (nibble k) a)) (λ v. return (shareWise (replace k) a v)) y)
+
+module _ {tape watch : List ℕ} {n : Counts} {vs : List ℕ} {n′ : Counts} {vs′ : List ℕ} where
   -- where a program has ended, its result
-  went-result : {A : Type 0} (m : Run A) {x : A} → Went p q r tape watch m n vs x n′ vs′ → x ≡ result m (drop (n .random) tape)
+  went-result : {A : Type 0} (m : Run A) {x : A} → Went tape watch m n vs x n′ vs′ → x ≡ result m (drop (n .random) tape)
   went-result m w = let e = exec-whole tape watch m n vs in let f = w .runs in cc
 
   module _ (box : List ℕ → Run (List ℕ)) (k : ℕ) where
     -- what the S-box gives is a sharing of a nibble
     pub closed-result : (w s : ℕ) (l : List ℕ) {x v : List ℕ} → Closed s tape box → s ≤ 9 → x ≡ map (nibble k) (sharing w s l)
-        → Went p q r tape watch (box x) n vs v n′ vs′
+        → Went tape watch (box x) n vs v n′ vs′
         → (length v ≡ 9) × Sharing 4 s (join v) v
     closed-result w s l {x} closed nine e g =
         let h : Sharing 4 s (join x) x = rw e (column-sharing w s k l nine) in
@@ -56,8 +63,8 @@ module _ {p q r : ℕ} {tape watch : List ℕ} {n : Counts} {vs : List ℕ} {n�
 
     pub nibble-substituted : (a x v b : List ℕ)
         → x ≡ map (nibble k) a
-        → Went p q r tape watch (box x) n vs v n′ vs′
+        → Went tape watch (box x) n vs v n′ vs′
         → b ≡ shareWise (replace k) a v
-        → Went p q r tape watch (maskedNibble box k a) n vs b n′ vs′
+        → Went tape watch (maskedNibble box k a) n vs b n′ vs′
     unfolding maskedNibble
     nibble-substituted a x v b e w f = rw (f, ← e) (went-map (shareWise (replace k) a) w)

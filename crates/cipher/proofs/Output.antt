@@ -1,39 +1,29 @@
 -- THE BYTES. If Block answers done, the shares that it writes join to the PRESENT-80 ciphertext of what the shares of the key and of the block join
 -- to: as numbers, and in the bytes that Join writes.
-use mathlib.Core.Path.{_≡_, refl, sym, ap, ap₂, _∙_}
-use mathlib.Core.List.{List, []}
+use mathlib.Core.Path.{_≡_, sym, ap, ap₂, _∙_}
+use mathlib.Core.List.{List}
 use Prim.Native.Nat.{ℕ, _*_}
 use lib.Dec.{eqb}
 use lib.ListN.{length}
 use Rattle.xor.specs.Sum.{join, Small}
 use Rattle.refusal.specs.Outcome.{done}
-use Rattle.refusal.proofs.Outcome.{then-passed}
 use Rattle.steps.specs.Program.{result}
-use Rattle.steps.specs.Sharing.{share, Sharing}
+use Rattle.steps.specs.Sharing.{share}
 use Rattle.steps.specs.Fill.{tabulate}
 use Rattle.steps.specs.Tape.{elements}
 use Rattle.steps.specs.Operations.{joinShares}
 use Rattle.steps.proofs.Fill.{length-tabulate}
-use Rattle.steps.proofs.Sharing.{tabulated-past, small-tabulate, without-past}
+use Rattle.steps.proofs.Sharing.{without-past}
 use Rattle.present.specs.Present.{size80, encrypt}
-use Rattle.present.specs.Bytes.{fromBytes, toBytes}
-use Rattle.layers.specs.State.{shareAt, sharesOf}
-use Rattle.layers.proofs.Number.{number-lt}
-use Rattle.layers.proofs.Stored.{shares-of-bytes}
-use Rattle.cipher.specs.Operations.{callProgram, recordTests, argumentTests, callTests, blockOutcome, blockOutput, Callable}
-use Rattle.cipher.proofs.Calls.{present-record, record-passed, tests-passed}
+use Rattle.steps.specs.Bytes.{fromBytes, toBytes}
+use Rattle.steps.specs.ShareBytes.{sharesOf}
+use Rattle.steps.specs.Call.{callResult}
+use Rattle.steps.proofs.Stored.{shares-of-bytes}
+use Rattle.steps.proofs.ShareBytes.{shares-sharing, bytes-of-small, bytes-of-length, join-number, join-writes}
+use Rattle.steps.proofs.Call.{call-passed}
+use Rattle.cipher.specs.Operations.{callProgram, blockCall, blockOutcome, blockOutput, Callable}
+use Rattle.cipher.proofs.Calls.{tests-passed}
 use Rattle.cipher.proofs.Theorems.{result-sharing}
-use Rattle.cipher.proofs.Bytes.{bytes-of-small, bytes-of-length, join-number, join-writes}
-
--- the s shares that lie in bytes are a sharing of what they join to
-pub shares-sharing : (w s : ℕ) (l : List ℕ) → Small 8 l → Sharing (8 * w) s (join (sharesOf w s l)) (sharesOf w s l)
-unfolding sharesOf shareAt
-shares-sharing w s l h =
-    record {
-      small = small-tabulate (8 * w) s (shareAt w l) (λ i. number-lt (w * i) l h w);
-      past = tabulated-past s (shareAt w l);
-      joins = refl;
-    }
 
 -- ---- what Block writes
 
@@ -45,21 +35,20 @@ output-bytes r s key block random = bytes-of-small 8 _
 pub output-length : (r : List ℕ) (s : ℕ) (key block random : List ℕ) → length (blockOutput r s key block random) ≡ 8 * s
 unfolding blockOutput
 output-length r s key block random =
-    let shares = share (result (callProgram r s key block) (elements 4 random)) in
+    let shares = share (callResult (blockCall r s key block random)) in
     bytes-of-length 8 (tabulate s shares) ∙ ap (λ (k : ℕ). 8 * k) (length-tabulate s shares)
 
 -- where a call may run, they join to the ciphertext
 pub output-joins : (r : List ℕ) (s : ℕ) (key block random : List ℕ) → Small 8 key → Small 8 block
-    → recordTests r ≡ done []
     → Callable r s key block random
     → join (sharesOf 8 s (blockOutput r s key block random)) ≡ encrypt size80 (join (sharesOf 10 s key)) (join (sharesOf 8 s block))
-unfolding blockOutput callProgram
-output-joins r s key block random hk hb e a =
+unfolding blockOutput blockCall callResult callProgram
+output-joins r s key block random hk hb a =
     let ks = sharesOf 10 s key in
     let xs = sharesOf 8 s block in
     let tape = elements 4 random in
     let c = result (callProgram r s key block) tape in
-    let sharing = result-sharing r (present-record r e) s (a .some) (a .nine) (join ks) (join xs) ks xs tape (shares-sharing 10 s key hk)
+    let sharing = result-sharing r (a .present) s (a .some) (a .nine) (join ks) (join xs) ks xs tape (shares-sharing 10 s key hk)
     (shares-sharing 8 s block hb) (a .random-small) in
     ap join (shares-of-bytes 8 s (share c) (λ i. sharing .small i))
     ∙ without-past s c (sharing .past)
@@ -69,12 +58,10 @@ output-joins r s key block random hk hb e a =
 pub done-joins : (r : List ℕ) (s : ℕ) (key block random : List ℕ) (out : ℕ) → Small 8 key → Small 8 block
     → {v : List ℕ} → blockOutcome r s key block random out ≡ done v
     → join (sharesOf 8 s (blockOutput r s key block random)) ≡ encrypt size80 (join (sharesOf 10 s key)) (join (sharesOf 8 s block))
-unfolding blockOutcome callTests
+unfolding blockOutcome blockCall
 done-joins r s key block random out hk hb e =
     let fits = eqb out (8 * s) in
-    let tests = then-passed (callTests r s key block random fits) _ e .1 in
-    let record-tests = then-passed (recordTests r) (argumentTests s key block random fits) tests .1 in
-    output-joins r s key block random hk hb (record-passed r record-tests) (tests-passed r s key block random fits tests .0)
+    output-joins r s key block random hk hb (tests-passed r s key block random fits (call-passed (blockCall r s key block random) fits e .1) .0)
 
 -- IN BYTES. If Block answers done, what Join writes from what it writes are the eight bytes of the ciphertext of what Join writes from the shares of
 -- the key and of the block.

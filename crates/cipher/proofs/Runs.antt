@@ -1,58 +1,91 @@
 -- What the parts of a round come to on the machine.
-use mathlib.Core.Path.{_≡_, _∙_}
+use mathlib.Core.Path.{_≡_}
 use mathlib.Core.List.{List}
-use Prim.Native.Nat.{ℕ, _+_}
-use native.Mathlib.Omega.{arith}
+use Prim.Native.Nat.{ℕ, _+_, _^_, _<_}
+use lib.ListN.{length}
 use Rattle.xor.specs.Xor.{_⊕_}
 use Rattle.steps.specs.declared.counts.Counts.{Counts}
-use Rattle.steps.specs.Program.{Run, one, return, _>>=_, _>>_, note}
+use Rattle.steps.specs.Program.{Touch, Run, one, return, _>>_, note}
 use Rattle.steps.specs.Recorder.{seen}
-use Rattle.steps.specs.Machine.{exec, Went}
-use Rattle.steps.specs.Loop.{each}
+use Rattle.steps.specs.Machine.{exec, Ready, Went, ReadySteps, WentSteps}
 use Rattle.steps.specs.Sharing.{share}
-use Rattle.steps.proofs.Parts.{went-map, went-once}
-use Rattle.steps.proofs.Loop.{each-all}
-use Rattle.present.specs.Present.{nibble, size80, roundNumber}
-use Rattle.present.specs.Masked.{shareWise, alone, noteNibbles, noteShares, recorded, addRoundNumber}
+use Rattle.steps.proofs.Program.{for-once}
+use Rattle.steps.proofs.Parts.{ready-first, went-map}
+use Rattle.steps.proofs.StepsAlone.{StepsAlone, alone-return, alone-then, alone-note, alone-for}
+use Rattle.present.specs.Present.{nibble, size80, roundNumber, topNibble}
+use Rattle.present.specs.Masked.{noteNibbles, noteShares, recorded, maskedAddRoundKey, maskedPermute, maskedRotate, addRoundNumber, maskedNibble, maskedTopNibbles}
+use Rattle.steps.specs.Sharing.{shareWise, alone}
 
 -- ---- recording
+
+-- the element x is recorded, which code has as v
+module _ {watch : List ℕ} (t : Touch) (x k : ℕ) {vs : List ℕ} where
+  pub note-went : (v next : ℕ) (vs′ : List ℕ) → v ≡ x → next ≡ k + 1 → vs′ ≡ seen watch k v vs → WentSteps watch (note t x) k vs x next vs′
+  unfolding note exec
+  note-went v next vs′ ev en es = record { runs = rw (es, en, ev) }
+
+  pub note-room : ReadySteps watch (note t x) k vs → (length watch ≡ length vs) × (k + 1 < 2 ^ 32)
+  unfolding note exec
+  note-room y = (y .places, y .steps-fit)
 
 -- the turn of the loop that records the nibbles of share i, which is x
 abbrev pub nibbleTurn : ℕ → ℕ → ℕ → Unit {0} → Run Unit
 nibbleTurn i x j u = note (one i) (nibble j x) >> return u
 
--- nibble k of x is recorded
-pub nibble-went : (tape watch : List ℕ) (i k x : ℕ) (n : Counts) (vs : List ℕ) (v next : ℕ) (vs′ : List ℕ)
-    → v ≡ nibble k x
-    → next ≡ n .steps + 1
-    → vs′ ≡ seen watch (n .steps) v vs
-    → Went 0 0 1 tape watch (noteNibbles i k (k + 1) x) n vs tt (record { products = n .products; random = n .random; steps = next }) vs′
-unfolding noteNibbles note _>>_ _>>=_ exec
-nibble-went tape watch i k x n vs v next vs′ ev en es =
-    went-once k (nibbleTurn i x) tt
-    (record { runs = rw (es, en, ev); took-products = omega arith; took-draws = omega arith; took-steps = en })
-
 -- the turn of the loop that records n nibbles of each share of a
 abbrev pub shareTurn : ℕ → List ℕ → ℕ → Unit {0} → Run Unit
 shareTurn n a i u = noteNibbles i 0 n (share a i)
 
--- the sharing a is recorded, which code has as b
-pub recorded-went : (m s : ℕ) (a b : List ℕ) {p q r : ℕ} {tape watch : List ℕ} {n : Counts} {vs : List ℕ} {n′ : Counts} {vs′ : List ℕ}
-    → Went p q r tape watch (noteShares m s b) n vs tt n′ vs′
-    → b ≡ a
-    → Went p q r tape watch (recorded m s a) n vs b n′ vs′
-unfolding recorded _>>_
-recorded-went m s a b w e = rw (← e) (went-map (λ u. b) w)
+module _ {tape watch : List ℕ} {n : Counts} {vs : List ℕ} where
+  -- the sharing a is recorded, which code has as b
+  pub recorded-ready : (m s : ℕ) (a b : List ℕ) → Ready tape watch (recorded m s a) n vs → b ≡ a → Ready tape watch (noteShares m s b) n vs
+  unfolding recorded _>>_
+  recorded-ready m s a b y e = rw e (ready-first (noteShares m s a) (λ u. return a) y)
 
--- the round number is added
-pub number-went : (r x : ℕ) (a b : List ℕ) {p q k : ℕ} {tape watch : List ℕ} {n : Counts} {vs : List ℕ} {n′ : Counts} {vs′ : List ℕ}
-    → Went p q k tape watch (noteNibbles 0 3 5 x) n vs tt n′ vs′
-    → b ≡ shareWise _⊕_ a (alone (roundNumber size80 r))
-    → share b 0 ≡ x
-    → Went p q k tape watch (addRoundNumber size80 r a) n vs b n′ vs′
-unfolding addRoundNumber _>>_
-number-went r x a b w e f = rw (← e, f) (went-map (λ u. b) w)
+  pub recorded-went : (m s : ℕ) (a b : List ℕ) {n′ : Counts} {vs′ : List ℕ}
+      → Went tape watch (noteShares m s b) n vs tt n′ vs′ → b ≡ a → Went tape watch (recorded m s a) n vs b n′ vs′
+  unfolding recorded _>>_
+  recorded-went m s a b w e = rw (← e) (went-map (λ u. b) w)
 
--- the steps of a share of n nibbles
-pub each-one : (n : ℕ) → each 1 n 0 ≡ n
-each-one n = each-all 1 n ∙ omega arith
+  -- the round number is added
+  pub number-ready : (r x : ℕ) (a b : List ℕ) → Ready tape watch (addRoundNumber size80 r a) n vs
+      → b ≡ shareWise _⊕_ a (alone (roundNumber size80 r)) → share b 0 ≡ x → Ready tape watch (noteNibbles 0 3 5 x) n vs
+  unfolding addRoundNumber _>>_
+  number-ready r x a b y e f = rw (← f, e) (ready-first _ _ y)
+
+  pub number-went : (r x : ℕ) (a b : List ℕ) {n′ : Counts} {vs′ : List ℕ} → Went tape watch (noteNibbles 0 3 5 x) n vs tt n′ vs′
+      → b ≡ shareWise _⊕_ a (alone (roundNumber size80 r)) → share b 0 ≡ x → Went tape watch (addRoundNumber size80 r a) n vs b n′ vs′
+  unfolding addRoundNumber _>>_
+  number-went r x a b w e f = rw (← e, f) (went-map (λ u. b) w)
+
+-- ---- the linear parts take steps alone
+
+nibbles-alone : (i k n x : ℕ) → StepsAlone (noteNibbles i k n x)
+unfolding noteNibbles
+nibbles-alone i k n x = alone-for k n (λ j u. alone-then (alone-note _ _) alone-return) tt
+
+recorded-alone : (m s : ℕ) (a : List ℕ) → StepsAlone (recorded m s a)
+unfolding recorded noteShares
+recorded-alone m s a = alone-then (alone-for 0 s (λ i u. nibbles-alone i 0 m _) tt) alone-return
+
+pub addition-alone : (s : ℕ) (k a : List ℕ) → StepsAlone (maskedAddRoundKey size80 s k a)
+unfolding maskedAddRoundKey
+addition-alone s k a = recorded-alone _ s _
+
+pub permutation-alone : (s : ℕ) (a : List ℕ) → StepsAlone (maskedPermute s a)
+unfolding maskedPermute
+permutation-alone s a = recorded-alone _ s _
+
+pub rotation-alone : (s : ℕ) (k : List ℕ) → StepsAlone (maskedRotate size80 s k)
+unfolding maskedRotate
+rotation-alone s k = recorded-alone _ s _
+
+pub number-alone : (r : ℕ) (k : List ℕ) → StepsAlone (addRoundNumber size80 r k)
+unfolding addRoundNumber
+number-alone r k = alone-then (nibbles-alone _ _ _ _) alone-return
+
+-- ---- the S-box of the key update is that of its top nibble
+
+pub top-nibble : (box : List ℕ → Run (List ℕ)) (a : List ℕ) → maskedTopNibbles box size80 a ≡ maskedNibble box 19 a
+unfolding maskedTopNibbles
+top-nibble box a = for-once 0 (λ j. maskedNibble box (topNibble size80 j)) a

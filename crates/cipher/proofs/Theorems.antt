@@ -1,6 +1,5 @@
 -- What is proved of the masked block, with any record of PRESENT's table and 1 to 9 shares: what its shares join to, what it takes, and what a watch
 -- can learn.
-use mathlib.Core.Logic.{inl}
 use mathlib.Core.Path.{_≡_, refl, sym, ap, _∙_}
 use mathlib.Core.List.{List, _∷_, _++_}
 use Prim.Native.Nat.{ℕ, _+_, _-_, _*_, _≤_, _<_}
@@ -9,18 +8,22 @@ use native.Mathlib.Omega.{arith}
 use lib.ListN.{length, replicate}
 use Rattle.xor.specs.Xor.{_⊕_}
 use Rattle.xor.specs.Sum.{join, Small}
-use Rattle.steps.specs.Program.{result, trace, draws, products}
+use Rattle.steps.specs.Program.{result, trace, draws}
 use Rattle.steps.specs.Watch.{different, Misses}
 use Rattle.steps.specs.Choices.{Fits, choices}
+use Rattle.steps.specs.Settled.{maskBits, choiceBits}
 use Rattle.steps.specs.Shape.{touchesOf, bitsOf, stepsOf, drawsOf, productsOf, Shaped}
 use Rattle.steps.specs.Sharing.{Sharing}
 use Rattle.steps.proofs.Choices.{fits-small}
-use Rattle.steps.proofs.Shape.{shaped-result, shaped-steps, shaped-draws, shaped-products}
+use Rattle.steps.specs.Call.{Takes}
+use Rattle.steps.proofs.Shape.{shaped-result, shaped-draws}
+use Rattle.steps.proofs.Call.{takes-shape}
 use Rattle.sbox.specs.Figures.{sboxProducts, sboxDraws, sboxSteps}
 use Rattle.sbox.proofs.Counts.{sbox-steps, sbox-draws, sbox-products, uniform-sbox}
 use Rattle.present.specs.Present.{size80, State, encrypt}
 use Rattle.present.specs.Masked.{blockShape}
 use Rattle.present.specs.Experiment.{Secret}
+use Rattle.present.specs.Experiment as present-spec
 use Rattle.present.proofs.Numbers.{sound80}
 use Rattle.present.proofs.Joined.{encrypt-joins}
 use Rattle.present.proofs.Counts.{block-steps, block-draws, block-products, block-bits}
@@ -29,22 +32,22 @@ use Rattle.present.proofs.Secrecy.{block-untouched-share, block-few-steps, choi
 use Rattle.present.proofs.Experiment.{experiment-trace}
 use Rattle.cipher.specs.Box.{recordSbox, blockProgram}
 use Rattle.cipher.specs.Figures.{blockProducts, blockDraws, blockSteps}
-use Rattle.cipher.specs.Experiment.{PresentRecord, boxShape, experiment, choiceBits}
+use Rattle.cipher.specs.Experiment.{PresentRecord, boxShape, experiment, blockInputs}
 use Rattle.cipher.proofs.Box.{substitutes, hides}
 
 -- ---- the figures
 
 box-steps : (s : ℕ) → stepsOf (boxShape s) ≡ 57 * s + 7 * (s * (s - 1))
 unfolding boxShape sboxSteps
-box-steps s = sbox-steps 4 s (inl refl)
+box-steps s = sbox-steps 4 s refl
 
 box-draws : (s : ℕ) → drawsOf (boxShape s) ≡ s * (s - 1)
 unfolding boxShape sboxDraws
-box-draws s = sbox-draws 4 s (inl refl)
+box-draws s = sbox-draws 4 s refl
 
 box-products : (s : ℕ) → productsOf (boxShape s) ≡ 2
 unfolding boxShape sboxProducts
-box-products s = sbox-products 4 s (inl refl)
+box-products s = sbox-products 4 s refl
 
 -- the shape of a block has as many steps, draws and products as the paper says
 pub steps-of-block : (s : ℕ) → 0 < s → stepsOf (blockShape size80 s (boxShape s)) ≡ blockSteps s
@@ -69,6 +72,12 @@ bits-of-block : (s : ℕ) → bitsOf (blockShape size80 s (boxShape s)) ≡ repl
 unfolding boxShape
 bits-of-block s = block-bits s (boxShape s) (uniform-sbox 4 s _) ∙ ap (λ (d : ℕ). replicate d 4) (draw-figure s)
 
+-- A CHOICE has s - 1 elements of 80 bits, s - 1 of 64 bits, and a random element of 4 bits for each draw: these are the draws of the experiment.
+pub choice-is : (s : ℕ) → present-spec.choiceBits size80 s (boxShape s) ≡ choiceBits (blockInputs s)
+unfolding choiceBits maskBits boxShape
+choice-is s =
+    choice-bits s (boxShape s) (uniform-sbox 4 s _) ∙ ap (λ (d : ℕ). replicate (s - 1) 80 ++ (replicate (s - 1) 64 ++ replicate d 4)) (draw-figure s)
+
 module _ (r : List ℕ) (accepted : PresentRecord r) (s : ℕ) (some : 0 < s) (nine : s ≤ 9) where
   -- ---- a run, on sharings of the key k and the block x
 
@@ -87,15 +96,13 @@ module _ (r : List ℕ) (accepted : PresentRecord r) (s : ℕ) (some : 0 < s) (n
     pub result-sharing : Sharing 64 s (encrypt size80 k x) (result (blockProgram r s ks xs) random)
     result-sharing = shaped-result shaped random fits
 
-    -- WHAT IT TAKES: so many steps, random elements of 4 bits and masked products.
-    pub trace-length : length (trace (blockProgram r s ks xs) random) ≡ blockSteps s
-    trace-length = shaped-steps shaped random fits ∙ steps-of-block s some
+    -- WHAT IT TAKES: so many masked products, random elements and steps;
+    pub takes : Takes (blockProgram r s ks xs) random blockProducts (blockDraws s) (blockSteps s)
+    takes = takes-shape shaped random fits (products-of-block s) (draws-of-block s) (steps-of-block s some)
 
+    -- the random elements are of 4 bits each.
     pub draws-are : draws (blockProgram r s ks xs) random ≡ replicate (blockDraws s) 4
     draws-are = shaped-draws shaped random fits ∙ bits-of-block s
-
-    pub products-length : length (products 0 (blockProgram r s ks xs) random) ≡ blockProducts
-    products-length = shaped-products shaped 0 random fits ∙ products-of-block s
 
   -- ---- what a watch can learn
 
@@ -107,28 +114,27 @@ module _ (r : List ℕ) (accepted : PresentRecord r) (s : ℕ) (some : 0 < s) (n
   experiment-steps = experiment-trace (recordSbox s r) size80 s
 
   -- The experiment draws the elements of a choice, and no other.
-  pub experiment-draws : (a : State ℕ) → Secret size80 a → (tape : List ℕ) → Fits (choiceBits s) tape → draws (experiment r s a) tape ≡ choiceBits s
-  unfolding experiment choiceBits
-  experiment-draws = present.experiment-draws (recordSbox s r) size80 sound80 s (boxShape s) (substitutes r accepted s some nine) some
+  pub experiment-draws : (a : State ℕ) → Secret size80 a → (tape : List ℕ) → Fits (choiceBits (blockInputs s)) tape
+      → draws (experiment r s a) tape ≡ choiceBits (blockInputs s)
+  unfolding experiment
+  experiment-draws =
+      rw (choice-is s) at (present.experiment-draws (recordSbox s r) size80 sound80 s (boxShape s) (substitutes r accepted s some nine) some)
 
   -- FEW STEPS. If the list has at most t different numbers, and s is at least 2 t + 1, then for any two keys and blocks and each list of values equally
   -- many choices show these values at the steps of the list.
   pub few-steps : (t : ℕ) → 2 * t + 1 ≤ s → (list : List ℕ) → different list ≤ t
       → (shown : List ℕ) (x y : State ℕ) → Secret size80 x → Secret size80 y
-      → choices (choiceBits s) (experiment r s x) list shown ≡ choices (choiceBits s) (experiment r s y) list shown
-  unfolding experiment choiceBits
-  few-steps = block-few-steps (recordSbox s r) size80 sound80 s (boxShape s) (substitutes r accepted s some nine) (λ u h. hides r accepted s u)
+      → choices (choiceBits (blockInputs s)) (experiment r s x) list shown ≡ choices (choiceBits (blockInputs s)) (experiment r s y) list shown
+  unfolding experiment
+  few-steps =
+      rw (choice-is s) at
+      (block-few-steps (recordSbox s r) size80 sound80 s (boxShape s) (substitutes r accepted s some nine) (λ u h. hides r accepted s u))
 
   -- AN UNTOUCHED SHARE. The same holds of a list of any number of steps, if there is a share u that none of them touches.
   pub untouched-share : (u : ℕ) → u < s → (list : List ℕ) → Misses u (touchesOf (blockShape size80 s (boxShape s))) list
       → (shown : List ℕ) (x y : State ℕ) → Secret size80 x → Secret size80 y
-      → choices (choiceBits s) (experiment r s x) list shown ≡ choices (choiceBits s) (experiment r s y) list shown
-  unfolding experiment choiceBits
+      → choices (choiceBits (blockInputs s)) (experiment r s x) list shown ≡ choices (choiceBits (blockInputs s)) (experiment r s y) list shown
+  unfolding experiment
   untouched-share u h =
-      block-untouched-share (recordSbox s r) size80 sound80 s (boxShape s) (substitutes r accepted s some nine) u h (hides r accepted s u)
-
--- a choice has s - 1 elements of 80 bits, s - 1 of 64 bits, and a random element of 4 bits for each draw
-pub choice-is : (s : ℕ) → choiceBits s ≡ replicate (s - 1) 80 ++ (replicate (s - 1) 64 ++ replicate (blockDraws s) 4)
-unfolding choiceBits boxShape
-choice-is s =
-    choice-bits s (boxShape s) (uniform-sbox 4 s _) ∙ ap (λ (d : ℕ). replicate (s - 1) 80 ++ (replicate (s - 1) 64 ++ replicate d 4)) (draw-figure s)
+      rw (choice-is s) at
+      (block-untouched-share (recordSbox s r) size80 sound80 s (boxShape s) (substitutes r accepted s some nine) u h (hides r accepted s u))

@@ -6,7 +6,7 @@ use lib.ListN.{length}
 use Rattle.refusal.specs.Outcome.{done}
 use Rattle.steps.specs.Operations.{splitShares, splitOutcome, joinShares, joinOutcome}
 use Rattle.present.specs.Present.{size80, encrypt}
-use Rattle.present.specs.Bytes.{fromBytes, toBytes}
+use Rattle.steps.specs.Bytes.{fromBytes, toBytes}
 use Rattle.cipher.specs.Figures.{figures}
 use Rattle.cipher.specs.Operations.{blockOutcome, blockOutput}
 

@@ -2,23 +2,6 @@
 use mathlib.Core.List.{List, [], _∷_}
 use Prim.Native.Nat.{ℕ, _+_, _-_, _*_}
 use Rattle.steps.specs.Tape.{bytesFor}
-use Rattle.sbox.specs.Figures.{sboxProducts, sboxDraws, sboxSteps}
-
--- ---- of a round: 17 S-boxes, and 52 nibbles of each share and two of share 0 that are recorded
-
--- its masked products
-unfoldable pub roundProducts : ℕ
-roundProducts = 17 * sboxProducts 4
-
--- its random elements
-unfoldable pub roundDraws : ℕ → ℕ
-roundDraws s = 17 * sboxDraws 4 s
-
--- its steps
-unfoldable pub roundSteps : ℕ → ℕ
-roundSteps s = 52 * s + 17 * sboxSteps 4 s + 2
-
--- ---- of a block
 
 -- its masked products
 unfoldable pub blockProducts : ℕ

@@ -1,7 +1,7 @@
 pub mod Box
 pub mod Rounds
 pub mod Figures
-pub mod Operations
 pub mod Experiment
+pub mod Operations
 pub mod Alike
 pub mod Chain

@@ -8,7 +8,7 @@ use Rattle.steps.specs.Program.{Run, result}
 use Rattle.steps.specs.Sharing.{Sharing}
 use Rattle.steps.specs.Machine.{zeroCounts}
 use Rattle.present.specs.Present.{State}
-use Rattle.layers.specs.State.{sharing, ZeroPast}
+use Rattle.steps.specs.ShareBytes.{sharing, ZeroPast}
 use Rattle.cipher.specs.declared.rounds.RoundState.{RoundState}
 
 -- the sharings, of s shares

@@ -2,10 +2,11 @@
 ghost use mathlib.Core.Path.{_≡_};
 ghost use Prim.Native.Nat.{_*_};
 ghost use lib.ListN.{length};
-ghost use Rattle.refusal.specs.Outcome.{done, Answered};
-ghost use Rattle.cipher.specs.Operations.{Callable, callCounts, blockReport, blockOutcome, blockOutput};
-use crate::checking::Tested;
-use crate::checking::call_tests;
+ghost use Rattle.refusal.specs.Outcome.{done, refused, Answered};
+ghost use Rattle.steps.specs.Call.{callCounts};
+ghost use Rattle.cipher.specs.Operations.{Callable, blockCall, blockReport, blockOutcome, blockOutput};
+use crate::arguments::Tested;
+use crate::arguments::call_tests;
 use crate::encryption::encrypt;
 use steps::bytes_for;
 
@@ -20,6 +21,15 @@ pub enum BlockAnswer {
         number: u8,
         place: usize,
     },
+}
+
+impl BlockAnswer {
+    // A refusal.
+    fn refuse(number: u8, place: usize) -> BlockAnswer
+        ensures { λ r. ⌜ blockReport r ≡ refused number place ⌝ }
+    {
+        BlockAnswer::Refused { number, place }
+    }
 }
 
 // The masked block of s shares, 1 to 9, of a key and of a block, by a record of PRESENT's S-box. `out` takes the shares of the result.
@@ -41,7 +51,7 @@ pub fn block(
     let fits = out.len() == 8 * count;
     let tested = call_tests(rec, s, key, block, random, fits);
     match tested {
-        Tested::Refused { number, place } => BlockAnswer::Refused { number, place },
+        Tested::Refused { number, place } => BlockAnswer::refuse(number, place),
         Tested::Passed => encipher(count, rec, key, block, random, out),
     }
 }
@@ -57,7 +67,7 @@ fn encipher(
 ) -> BlockAnswer
     requires { ⌜ Callable (now rec) s (now key) (now block) (now random) ⌝ }
     requires { ⌜ length (now out) ≡ 8 * s ⌝ }
-    ensures { λ r. ⌜ Answered (done (callCounts (now (rec .entry)) s (now (key .entry)) (now (block .entry)) (now (random .entry))))
+    ensures { λ r. ⌜ Answered (done (callCounts (blockCall (now (rec .entry)) s (now (key .entry)) (now (block .entry)) (now (random .entry)))))
         (blockOutput (now (rec .entry)) s (now (key .entry)) (now (block .entry)) (now (random .entry)))
         (now (out .entry)) (blockReport r) (now (out .exit)) ⌝ }
 {

@@ -4,13 +4,11 @@ ghost use mathlib.Core.Path.{_≡_};
 ghost use lib.ListN.{length};
 ghost use Rattle.steps.specs.Tape.{elements};
 ghost use Rattle.steps.specs.Machine.{zeroCounts, Ready, Went};
-ghost use Rattle.present.specs.Present.{size80};
-ghost use Rattle.present.specs.Masked.{maskedEncrypt};
-ghost use Rattle.layers.specs.State.{sharesOf, sharing, ZeroPast};
+ghost use Rattle.steps.specs.ShareBytes.{sharing, ZeroPast};
 ghost use Rattle.cipher.specs.Box.{recordSbox};
 ghost use Rattle.cipher.specs.Rounds.{Closed, Loaded};
-ghost use Rattle.cipher.specs.Figures.{blockProducts, blockDraws, blockSteps};
-use crate::linear::add_round_key;
+ghost use Rattle.cipher.specs.Operations.{callProgram};
+use crate::linear_parts::add_round_key;
 use crate::rounds::RoundState;
 use crate::rounds::rounds;
 use steps::Counts;
@@ -33,11 +31,7 @@ fn load(key: &[u8], block: &[u8]) -> RoundState
     RoundState {
         block: b,
         key: k,
-        counts: Counts {
-            products: 0,
-            random: 0,
-            steps: 0,
-        },
+        counts: Counts::zero(),
     }
 }
 
@@ -53,9 +47,10 @@ pub fn encrypt(
 ) -> Encrypted
     requires { ⌜ (0 < s) × (s ≤ 9) × (33 ≤ length (now rec)) × (length (now key) ≡ 10 * s) × (length (now block) ≡ 8 * s) ⌝ }
     requires { ⌜ Closed s (elements 4 (now random)) (recordSbox s (now rec)) ⌝ }
-    requires { ⌜ Ready blockProducts (blockDraws s) (blockSteps s) zeroCounts (elements 4 (now random)) (now watch) (now values) ⌝ }
-    ensures { λ r. ⌜ Went blockProducts (blockDraws s) (blockSteps s) (elements 4 (now (random .entry))) (now (watch .entry))
-        (maskedEncrypt (recordSbox s (now (rec .entry))) size80 s (sharesOf 10 s (now (key .entry))) (sharesOf 8 s (now (block .entry))))
+    requires { ⌜ Ready (elements 4 (now random)) (now watch)
+        (callProgram (now rec) s (now key) (now block)) zeroCounts (now values) ⌝ }
+    ensures { λ r. ⌜ Went (elements 4 (now (random .entry))) (now (watch .entry))
+        (callProgram (now (rec .entry)) s (now (key .entry)) (now (block .entry)))
         zeroCounts (now (values .entry)) (sharing 8 s (r .block)) (r .counts) (now (values .exit)) ⌝ }
     ensures { λ r. ⌜ ZeroPast 8 s (r .block) ⌝ }
 {
@@ -63,9 +58,10 @@ pub fn encrypt(
     let t = rounds(s, rec, random, watch, &mut *values, t);
     let k = t.key;
     let mut b = t.block;
-    let n = add_round_key(s, &k, random, watch, values, &mut b, t.counts);
+    let n = t.counts;
+    let next = add_round_key(s, &k, watch, values, &mut b, n.steps);
     Encrypted {
         block: b,
-        counts: n,
+        counts: n.with_steps(next),
     }
 }

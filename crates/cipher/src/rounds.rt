@@ -1,21 +1,18 @@
 // The rounds of a masked block.
-ghost use Prim.Native.Nat.{_+_, _*_, _<_, _≤_};
+ghost use Prim.Native.Nat.{_<_, _≤_};
 ghost use lib.ListN.{length};
 ghost use Rattle.steps.specs.Program.{for};
 ghost use Rattle.steps.specs.Tape.{elements};
 ghost use Rattle.steps.specs.Machine.{Ready, Went};
-ghost use Rattle.steps.specs.Loop.{each};
-ghost use Rattle.sbox.specs.Figures.{sboxProducts, sboxDraws, sboxSteps};
 ghost use Rattle.present.specs.Present.{size80};
 ghost use Rattle.present.specs.Masked.{maskedUpdate, maskedRound};
-ghost use Rattle.layers.specs.State.{sharing, KeptPast};
+ghost use Rattle.steps.specs.ShareBytes.{sharing, KeptPast};
 ghost use Rattle.cipher.specs.Box.{recordSbox};
 ghost use Rattle.cipher.specs.Rounds.{Closed, sharings, ZeroPastShares};
-ghost use Rattle.cipher.specs.Figures.{roundProducts, roundDraws, roundSteps};
-use crate::linear::add_round_key;
-use crate::linear::permutation;
-use crate::linear::rotation;
-use crate::linear::round_number;
+use crate::linear_parts::add_round_key;
+use crate::linear_parts::permutation;
+use crate::linear_parts::rotation;
+use crate::linear_parts::round_number;
 use crate::substitution::sbox_layer;
 use crate::substitution::sbox_nibble;
 use steps::Counts;
@@ -40,15 +37,18 @@ pub fn update_key(
 ) -> Counts
     requires { ⌜ (0 < s) × (s ≤ 9) × (r < 32) × (33 ≤ length (now rec)) ⌝ }
     requires { ⌜ Closed s (elements 4 (now random)) (recordSbox s (now rec)) ⌝ }
-    requires { ⌜ Ready (sboxProducts 4) (sboxDraws 4 s) (20 * s + sboxSteps 4 s + 2) n (elements 4 (now random)) (now watch) (now values) ⌝ }
-    ensures { λ w. ⌜ Went (sboxProducts 4) (sboxDraws 4 s) (20 * s + sboxSteps 4 s + 2) (elements 4 (now (random .entry))) (now (watch .entry))
+    requires { ⌜ Ready (elements 4 (now random)) (now watch)
+        (maskedUpdate (recordSbox s (now rec)) size80 s r (sharing 10 s (now key))) n (now values) ⌝ }
+    ensures { λ w. ⌜ Went (elements 4 (now (random .entry))) (now (watch .entry))
         (maskedUpdate (recordSbox s (now (rec .entry))) size80 s r (sharing 10 s (now (key .entry))))
         n (now (values .entry)) (sharing 10 s (now (key .exit))) w (now (values .exit)) ⌝ }
     ensures { λ _. ⌜ KeptPast 10 s (now (key .entry)) (now (key .exit)) ⌝ }
 {
-    let n = rotation(s, random, watch, &mut *values, &mut *key, n);
+    let next = rotation(s, watch, &mut *values, &mut *key, n.steps);
+    let n = n.with_steps(next);
     let n = sbox_nibble(10, s, 19, rec, random, watch, &mut *values, &mut *key, n);
-    round_number(s, r, random, watch, values, key, n)
+    let next = round_number(s, r, watch, values, key, n.steps);
+    n.with_steps(next)
 }
 
 // Round r. The state is zero past the shares, before it and after it.
@@ -63,18 +63,22 @@ pub fn round(
 ) -> RoundState
     requires { ⌜ (0 < s) × (s ≤ 9) × (r < 32) × (33 ≤ length (now rec)) ⌝ }
     requires { ⌜ Closed s (elements 4 (now random)) (recordSbox s (now rec)) ⌝ }
-    requires { ⌜ Ready roundProducts (roundDraws s) (roundSteps s) (t .counts) (elements 4 (now random)) (now watch) (now values) ⌝ }
+    requires { ⌜ Ready (elements 4 (now random)) (now watch)
+        (maskedRound (recordSbox s (now rec)) size80 s r (sharings s t)) (t .counts) (now values) ⌝ }
     requires { ⌜ ZeroPastShares s t ⌝ }
-    ensures { λ w. ⌜ Went roundProducts (roundDraws s) (roundSteps s) (elements 4 (now (random .entry))) (now (watch .entry))
+    ensures { λ w. ⌜ Went (elements 4 (now (random .entry))) (now (watch .entry))
         (maskedRound (recordSbox s (now (rec .entry))) size80 s r (sharings s t))
         (t .counts) (now (values .entry)) (sharings s w) (w .counts) (now (values .exit)) ⌝ }
     ensures { λ w. ⌜ ZeroPastShares s w ⌝ }
 {
     let mut block = t.block;
     let mut key = t.key;
-    let n = add_round_key(s, &key, random, watch, &mut *values, &mut block, t.counts);
+    let n = t.counts;
+    let next = add_round_key(s, &key, watch, &mut *values, &mut block, n.steps);
+    let n = n.with_steps(next);
     let n = sbox_layer(s, rec, random, watch, &mut *values, &mut block, n);
-    let n = permutation(s, random, watch, &mut *values, &mut block, n);
+    let next = permutation(s, watch, &mut *values, &mut block, n.steps);
+    let n = n.with_steps(next);
     let n = update_key(s, rec, r, random, watch, values, &mut key, n);
     RoundState {
         block,
@@ -94,11 +98,10 @@ pub fn rounds(
 ) -> RoundState
     requires { ⌜ (0 < s) × (s ≤ 9) × (33 ≤ length (now rec)) ⌝ }
     requires { ⌜ Closed s (elements 4 (now random)) (recordSbox s (now rec)) ⌝ }
-    requires { ⌜ Ready (each roundProducts 32 1) (each (roundDraws s) 32 1) (each (roundSteps s) 32 1)
-        (t .counts) (elements 4 (now random)) (now watch) (now values) ⌝ }
+    requires { ⌜ Ready (elements 4 (now random)) (now watch)
+        (for 1 32 (maskedRound (recordSbox s (now rec)) size80 s) (sharings s t)) (t .counts) (now values) ⌝ }
     requires { ⌜ ZeroPastShares s t ⌝ }
-    ensures { λ w. ⌜ Went (each roundProducts 32 1) (each (roundDraws s) 32 1) (each (roundSteps s) 32 1)
-        (elements 4 (now (random .entry))) (now (watch .entry))
+    ensures { λ w. ⌜ Went (elements 4 (now (random .entry))) (now (watch .entry))
         (for 1 32 (maskedRound (recordSbox s (now (rec .entry))) size80 s) (sharings s t))
         (t .counts) (now (values .entry)) (sharings s w) (w .counts) (now (values .exit)) ⌝ }
     ensures { λ w. ⌜ ZeroPastShares s w ⌝ }

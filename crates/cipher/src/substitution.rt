@@ -3,10 +3,8 @@ ghost use Prim.Native.Nat.{_*_, _<_, _≤_};
 ghost use lib.ListN.{length};
 ghost use Rattle.steps.specs.Tape.{elements};
 ghost use Rattle.steps.specs.Machine.{Ready, Went};
-ghost use Rattle.steps.specs.Loop.{each};
-ghost use Rattle.sbox.specs.Figures.{sboxProducts, sboxDraws, sboxSteps};
 ghost use Rattle.present.specs.Masked.{maskedNibble, maskedSboxLayer};
-ghost use Rattle.layers.specs.State.{sharing, KeptPast};
+ghost use Rattle.steps.specs.ShareBytes.{sharing, KeptPast};
 ghost use Rattle.cipher.specs.Box.{recordSbox};
 ghost use Rattle.cipher.specs.Rounds.{Closed};
 use steps::Counts;
@@ -25,8 +23,9 @@ pub fn sbox_nibble(
 ) -> Counts
     requires { ⌜ (s ≤ 9) × (k < 2 * w) × (w * s ≤ length (now l)) × (33 ≤ length (now rec)) ⌝ }
     requires { ⌜ Closed s (elements 4 (now random)) (recordSbox s (now rec)) ⌝ }
-    requires { ⌜ Ready (sboxProducts 4) (sboxDraws 4 s) (sboxSteps 4 s) n (elements 4 (now random)) (now watch) (now values) ⌝ }
-    ensures { λ r. ⌜ Went (sboxProducts 4) (sboxDraws 4 s) (sboxSteps 4 s) (elements 4 (now (random .entry))) (now (watch .entry))
+    requires { ⌜ Ready (elements 4 (now random)) (now watch)
+        (maskedNibble (recordSbox s (now rec)) k (sharing w s (now l))) n (now values) ⌝ }
+    ensures { λ r. ⌜ Went (elements 4 (now (random .entry))) (now (watch .entry))
         (maskedNibble (recordSbox s (now (rec .entry))) k (sharing w s (now (l .entry))))
         n (now (values .entry)) (sharing w s (now (l .exit))) r (now (values .exit)) ⌝ }
     ensures { λ _. ⌜ KeptPast w s (now (l .entry)) (now (l .exit)) ⌝ }
@@ -50,10 +49,9 @@ pub fn sbox_layer(
 ) -> Counts
     requires { ⌜ (s ≤ 9) × (33 ≤ length (now rec)) ⌝ }
     requires { ⌜ Closed s (elements 4 (now random)) (recordSbox s (now rec)) ⌝ }
-    requires { ⌜ Ready (each (sboxProducts 4) 16 0) (each (sboxDraws 4 s) 16 0) (each (sboxSteps 4 s) 16 0)
-        n (elements 4 (now random)) (now watch) (now values) ⌝ }
-    ensures { λ r. ⌜ Went (each (sboxProducts 4) 16 0) (each (sboxDraws 4 s) 16 0) (each (sboxSteps 4 s) 16 0)
-        (elements 4 (now (random .entry))) (now (watch .entry))
+    requires { ⌜ Ready (elements 4 (now random)) (now watch)
+        (maskedSboxLayer (recordSbox s (now rec)) (sharing 8 s (now block))) n (now values) ⌝ }
+    ensures { λ r. ⌜ Went (elements 4 (now (random .entry))) (now (watch .entry))
         (maskedSboxLayer (recordSbox s (now (rec .entry))) (sharing 8 s (now (block .entry))))
         n (now (values .entry)) (sharing 8 s (now (block .exit))) r (now (values .exit)) ⌝ }
     ensures { λ _. ⌜ KeptPast 8 s (now (block .entry)) (now (block .exit)) ⌝ }

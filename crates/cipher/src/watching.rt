@@ -1,14 +1,15 @@
 // The operation Watch block.
 ghost use mathlib.Core.Path.{_≡_};
 ghost use lib.ListN.{length};
-ghost use Rattle.refusal.specs.Outcome.{done, Answered};
+ghost use Rattle.refusal.specs.Outcome.{done, refused, Answered};
 ghost use Rattle.refusal.specs.Watch.{testSteps};
 ghost use Rattle.cipher.specs.Figures.{blockSteps};
-ghost use Rattle.cipher.specs.Operations.{Callable, callCounts, watchReport, watchOutcome, watchOutput};
-use crate::checking::Tested;
-use crate::checking::call_tests;
-use crate::counting::step_count;
+ghost use Rattle.steps.specs.Call.{callCounts};
+ghost use Rattle.cipher.specs.Operations.{Callable, blockCall, watchReport, watchOutcome, watchOutput};
+use crate::arguments::Tested;
+use crate::arguments::call_tests;
 use crate::encryption::encrypt;
+use crate::figures::step_count;
 use refusal::first_past;
 use refusal::list_fits;
 use steps::bytes_for;
@@ -24,6 +25,15 @@ pub enum WatchAnswer {
         number: u8,
         place: usize,
     },
+}
+
+impl WatchAnswer {
+    // A refusal.
+    fn refuse(number: u8, place: usize) -> WatchAnswer
+        ensures { λ r. ⌜ watchReport r ≡ refused number place ⌝ }
+    {
+        WatchAnswer::Refused { number, place }
+    }
 }
 
 // The masked block under a watch: value k is what the step whose number stands at place k of the list records.
@@ -46,7 +56,7 @@ pub fn watch_block(
     let fits = list_fits(list.len(), values.len());
     let tested = call_tests(rec, s, key, block, random, fits);
     match tested {
-        Tested::Refused { number, place } => WatchAnswer::Refused { number, place },
+        Tested::Refused { number, place } => WatchAnswer::refuse(number, place),
         Tested::Passed => watch(s, rec, key, block, random, list, values),
     }
 }
@@ -65,17 +75,14 @@ fn watch(
     requires { ⌜ length (now list) ≡ length (now values) ⌝ }
     ensures { λ r. ⌜ Answered
         (testSteps (blockSteps s) (now (list .entry))
-        (done (callCounts (now (rec .entry)) s (now (key .entry)) (now (block .entry)) (now (random .entry)))))
+        (done (callCounts (blockCall (now (rec .entry)) s (now (key .entry)) (now (block .entry)) (now (random .entry))))))
         (watchOutput (now (rec .entry)) s (now (key .entry)) (now (block .entry)) (now (random .entry)) (now (list .entry)))
         (now (values .entry)) (watchReport r) (now (values .exit)) ⌝ }
 {
     let total = step_count(s);
     let past = first_past(total, list);
     if past < list.len() {
-        return WatchAnswer::Refused {
-            number: 8,
-            place: past,
-        };
+        return WatchAnswer::refuse(8, past);
     }
     let count = s as usize;
     let e = encrypt(count, rec, key, block, random, list, values);

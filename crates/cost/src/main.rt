@@ -13,11 +13,11 @@ fn print_line(s: u32)
     requires { ⌜ (0 < s) × (s ≤ 9) ⌝ }
 {
     let count = s as usize;
-    let random = steps::bytes_for(4, cipher::counting::draw_count(count));
+    let random = steps::bytes_for(4, cipher::figures::draw_count(count));
     print_number(s as u64, b" ");
-    print_number(cipher::counting::product_count() as u64, b" ");
+    print_number(cipher::figures::product_count() as u64, b" ");
     print_number(random as u64, b" ");
-    print_number(cipher::counting::step_count(s) as u64, b"\n");
+    print_number(cipher::figures::step_count(s) as u64, b"\n");
 }
 
 fn main() {

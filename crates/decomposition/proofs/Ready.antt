@@ -3,16 +3,17 @@ use mathlib.Core.List.{List, _++_}
 use mathlib.Core.Path.{_≡_, refl, sym, subst}
 use Prim.Native.Nat.{ℕ, _+_, _<_}
 use native.Mathlib.Omega.{arith}
-use lib.Dec.{leb, eqb}
+use lib.Dec.{leb}
 use lib.ListN.{length, replicate}
 use lib.Pow.{pow-pos}
-use borrow.Author.Tests.{eqb-true, leb-true}
+use borrow.Author.Tests.{leb-true}
 use Rattle.refusal.specs.Large.{firstLarge}
 use Rattle.refusal.specs.Outcome.{Outcome, done, refused}
 use Rattle.refusal.proofs.Large.{all-small, both-small}
 use Rattle.refusal.proofs.Outcome.{passed}
-use Rattle.decomposition.specs.Fit.{FitCall, FitEnd, fitTests, FitReady, AfterTests, Found, IsFit}
+use Rattle.decomposition.specs.Fit.{FitCall, FitEnd, fitLengths, fitTests, FitReady, AfterTests, Found, IsFit}
 use Rattle.decomposition.specs.Layout.{Sizes, layout, Known}
+use Rattle.decomposition.proofs.Tests.{fit-lengths}
 use Rattle.decomposition.specs.declared.layouts.Layout.{Layout}
 
 module _ (L : Layout) (c : FitCall) where
@@ -31,18 +32,16 @@ module _ (L : Layout) (c : FitCall) where
   fit-ready z h =
       let bound = L .inputs in
       let all = c .table ++ c .basis in
-      let a = passed (eqb (length (c .table)) bound) 2 0 _ h in
-      let b = passed (eqb (length (c .basis)) (L .basis)) 2 0 _ (a .1) in
-      let d = passed (eqb (length (c .work)) (L .work)) 2 0 _ (b .1) in
-      let e = passed (eqb (length (c .out)) (L .size)) 2 0 _ (d .1) in
-      let f = passed (leb (length all) (firstLarge bound all)) 3 (0 + firstLarge bound all) _ (e .1) in
+      let a = passed (fitLengths L (length (c .table)) (length (c .basis)) (length (c .work)) (length (c .out))) 2 0 _ h in
+      let e = fit-lengths L (length (c .table)) (length (c .basis)) (length (c .work)) (length (c .out)) (a .0) in
+      let f = passed (leb (length all) (firstLarge bound all)) 3 (0 + firstLarge bound all) _ (a .1) in
       let s = both-small bound (c .table) (c .basis) (leb-true (length all) (firstLarge bound all) (f .0)) in
       let p : 0 < bound = omega (arith, z .inputs, pow-pos (L .width)) in
       record {
-        inputs = eqb-true (length (c .table)) bound (a .0);
-        whole = eqb-true (length (c .basis)) (L .basis) (b .0);
-        room = eqb-true (length (c .work)) (L .work) (d .0);
-        record-room = eqb-true (length (c .out)) (L .size) (e .0);
+        inputs = e .0;
+        whole = e .1;
+        room = e .2;
+        record-room = e .3;
         entries = λ k. rw (← z .inputs) (all-small bound (c .table) p (s .0) k);
         elements = λ k. rw (← z .inputs) (all-small bound (c .basis) p (s .1) k);
       }

@@ -5,12 +5,12 @@ use mathlib.Core.Logic.{_⊎_, inl, inr}
 use mathlib.Core.Path.{_≡_, refl, sym, ap, _∙_, ap₂}
 use Prim.Native.Nat.{ℕ, _+_, _<_}
 use native.Mathlib.Omega.{arith}
-use lib.Dec.{leb, eqb}
+use lib.Dec.{leb}
 use lib.ListN.{length}
 use Rattle.refusal.specs.Large.{firstLarge}
 use Rattle.refusal.specs.Outcome.{Outcome, done, refused, test}
 use Rattle.refusal.proofs.Outcome.{passed}
-use Rattle.decomposition.specs.Fit.{FitCall, FitEnd, allTests, FitReady, AfterTests, Found, IsFit}
+use Rattle.decomposition.specs.Fit.{FitCall, FitEnd, fitLengths, allTests, FitReady, AfterTests, Found, IsFit}
 use Rattle.decomposition.specs.Layout.{Sizes, known, layout, Known}
 use Rattle.decomposition.specs.Record.{recordOf}
 use Rattle.decomposition.specs.declared.layouts.Layout.{Layout}
@@ -32,12 +32,9 @@ tests-number n c =
     let all = c .table ++ c .basis in
     let first = firstLarge (L .inputs) all in
     refuses-below-4 (known n) 1 0 _ (omega arith)
-    (refuses-below-4 (eqb (length (c .table)) (L .inputs)) 2 0 _ (omega arith)
-    (refuses-below-4 (eqb (length (c .basis)) (L .basis)) 2 0 _ (omega arith)
-    (refuses-below-4 (eqb (length (c .work)) (L .work)) 2 0 _ (omega arith)
-    (refuses-below-4 (eqb (length (c .out)) (L .size)) 2 0 _ (omega arith)
+    (refuses-below-4 (fitLengths L (length (c .table)) (length (c .basis)) (length (c .work)) (length (c .out))) 2 0 _ (omega arith)
     (refuses-below-4 (leb (length all) first) 3 (0 + first) _ (omega arith)
-    (λ h. absurd (let q : _≡_ {A = ℕ} 0 1 = cc in omega arith)))))))
+    (λ h. absurd (let q : _≡_ {A = ℕ} 0 1 = cc in omega arith))))
 
 -- a test refuses the call, and not by 4
 pub record Refusal (e : FitEnd) : Type 0 where

@@ -1,7 +1,7 @@
 -- The two layouts fit together, and their numbers stay small.
 use mathlib.Core.Bool.{Bool, true, false, _||_}
 use mathlib.Core.Logic.{_⊎_, inl, inr}
-use mathlib.Core.Path.{_≡_, refl, _∙_, ap, sym}
+use mathlib.Core.Path.{_≡_, refl, _∙_, ap, sym, subst}
 use Prim.Native.Nat.{ℕ, _*_, _≤_, _+_, _-_, _<_, _^_, suc}
 use native.Mathlib.Nat.{mul-le-mul, suc-mul, le-refl}
 use native.Mathlib.Omega.{arith}
@@ -22,43 +22,31 @@ either : (a b : Bool) → (a || b) ≡ true → (a ≡ true) ⊎ (b ≡ true)
 either true b h = inl refl
 either false b h = inr h
 
-pub known-cases : (n : ℕ) → Known n → (n ≡ 4) ⊎ (n ≡ 6)
-known-cases n h = go (either (eqb n 4) (eqb n 6) h)
+-- what holds at 4 and at 6 holds at each width that has decompositions
+pub known-both : (P : ℕ → Type 0) → P 4 → P 6 → (n : ℕ) → Known n → P n
+known-both P four six n w = go (either (eqb n 4) (eqb n 6) w)
   where
-    go : (eqb n 4 ≡ true) ⊎ (eqb n 6 ≡ true) → (n ≡ 4) ⊎ (n ≡ 6)
-    go (inl e) = inl (eqb-true n 4 e)
-    go (inr e) = inr (eqb-true n 6 e)
+    go : (eqb n 4 ≡ true) ⊎ (eqb n 6 ≡ true) → P n
+    go (inl e) = subst P (sym (eqb-true n 4 e)) four
+    go (inr e) = subst P (sym (eqb-true n 6 e)) six
+
+-- one that is not 4 is 6
+pub known-6 : (n : ℕ) → Known n → (n ≡ 4 → ⊥) → n ≡ 6
+known-6 = known-both (λ n. (n ≡ 4 → ⊥) → n ≡ 6) (λ h. absurd (h refl)) (λ h. refl)
 
 -- each is a width of the field
 pub known-width : (n : ℕ) → Known n → Width n
-known-width n h = known-cases n h
+known-width = known-both Width (inl refl) (inr refl)
 
 -- ---- the layouts
 
 -- the numbers of the two widths are small
-record Few (n e t : ℕ) : Type 0 where
-  byte : 2 ^ n < 256
-  some-exponents : 0 < e
-  few-exponents : e < 32
-  some-terms : 0 < t
-  few-terms : t < 8
+abbrev Few : ℕ → ℕ → ℕ → Type 0
+Few n e t = (2 ^ n < 256) × (0 < e) × (e < 32) × (0 < t) × (t < 8)
 
-few : (n : ℕ) → (n ≡ 4) ⊎ (n ≡ 6) → Few n (length (exponents n)) (termsOf n)
+few : (n : ℕ) → Known n → Few n (length (exponents n)) (termsOf n)
 unfolding termsOf
-few n (inl h) = rw (h, length-exponents-4) (record {
-  byte = omega arith;
-  some-exponents = omega arith;
-  few-exponents = omega arith;
-  some-terms = omega arith;
-  few-terms = omega arith;
-})
-few n (inr h) = rw (h, length-exponents-6) (record {
-  byte = omega arith;
-  some-exponents = omega arith;
-  few-exponents = omega arith;
-  some-terms = omega arith;
-  few-terms = omega arith;
-})
+few = known-both (λ n. Few n (length (exponents n)) (termsOf n)) (rw length-exponents-4 (omega arith)) (rw length-exponents-6 (omega arith))
 
 one-less : (e t : ℕ) → 0 < t → (t - 1) * e + e ≡ t * e
 one-less e t h = let g : suc (t - 1) ≡ t = omega arith in sym (suc-mul (t - 1) e) ∙ ap (λ (k : ℕ). k * e) g
@@ -67,22 +55,22 @@ one-less e t h = let g : suc (t - 1) ≡ t = omega arith in sym (suc-mul (t - 1)
 pub sizes : (n : ℕ) → Known n → Sizes (layout n)
 unfolding layout sized
 sizes n k =
-    let f = few n (known-cases n k) in
+    let f = few n k in
     record {
       width = known-width n k;
       inputs = refl;
       listed = refl;
       unknowns = refl;
-      basis = one-less (length (exponents n)) (termsOf n) (f .some-terms);
+      basis = one-less (length (exponents n)) (termsOf n) (f .3);
       solution = refl;
       whole = refl;
       powers = refl;
       work = refl;
-      byte = f .byte;
-      some-exponents = f .some-exponents;
-      few-exponents = f .few-exponents;
-      some-terms = f .some-terms;
-      few-terms = f .few-terms;
+      byte = f .0;
+      some-exponents = f .1;
+      few-exponents = f .2;
+      some-terms = f .3;
+      few-terms = f .4;
     }
 
 -- the numbers that the paper names: the lengths of a record and of the work of a fit

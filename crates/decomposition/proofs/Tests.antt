@@ -1,24 +1,25 @@
 -- The tests that the operations make, passed and failed.
-use mathlib.Core.List.{List, [], _++_}
-use mathlib.Core.Path.{_≡_, refl, sym, ap, _∙_}
+use mathlib.Core.Bool.{true, and-eq-true-iff}
+use mathlib.Core.List.{List}
+use mathlib.Core.Path.{_≡_, sym, ap, _∙_}
 use Prim.Native.Nat.{ℕ, _-_}
 use lib.ListN.{length, take, drop, length-drop}
 use lib.Seq.{take-length}
-use borrow.Author.Tests.{eq-eqb}
-use Rattle.refusal.specs.Large.{testBelow}
-use Rattle.refusal.specs.Outcome.{done}
-use Rattle.decomposition.specs.Fit.{fitTests}
+use lib.Dec.{eqb}
+use borrow.Author.Tests.{eqb-true}
+use Rattle.decomposition.specs.Fit.{fitLengths}
 use Rattle.decomposition.specs.declared.layouts.Layout.{Layout}
 
 -- all from place k on
 pub whole-part : (k : ℕ) (l : List ℕ) → take (length l - k) (drop k l) ≡ drop k l
 whole-part k l = ap (λ (j : ℕ). take j (drop k l)) (sym (length-drop k l)) ∙ take-length (drop k l)
 
--- ---- tests one after the other
-
--- the lengths that Fit tests are right
-pub lengths-passed : (L : Layout) (table basis : List ℕ) (work out : ℕ)
-    → length table ≡ L .inputs → length basis ≡ L .basis → work ≡ L .work → out ≡ L .size
-    → fitTests L table basis work out ≡ testBelow (L .inputs) 0 (table ++ basis) (done [])
-lengths-passed L table basis work out a b c d =
-    rw (eq-eqb (length table) (L .inputs) a, eq-eqb (length basis) (L .basis) b, eq-eqb work (L .work) c, eq-eqb out (L .size) d) refl
+-- the lengths that Fit takes
+pub fit-lengths : (L : Layout) (table basis work out : ℕ) → fitLengths L table basis work out ≡ true
+    → (table ≡ L .inputs) × (basis ≡ L .basis) × (work ≡ L .work) × (out ≡ L .size)
+unfolding fitLengths
+fit-lengths L table basis work out e =
+    let a = and-eq-true-iff (eqb table (L .inputs)) _ .0 e in
+    let b = and-eq-true-iff (eqb basis (L .basis)) _ .0 (a .1) in
+    let c = and-eq-true-iff (eqb work (L .work)) _ .0 (b .1) in
+    (eqb-true _ _ (a .0), eqb-true _ _ (b .0), eqb-true _ _ (c .0), eqb-true _ _ (c .1))

@@ -11,7 +11,7 @@ use Rattle.refusal.specs.Outcome.{Outcome, done, refused, andThen}
 use Rattle.refusal.proofs.Outcome.{passed}
 use Rattle.field.proofs.Polynomial.{length-exponents-4}
 use Rattle.decomposition.specs.Check.{checkOutcome, checkAt}
-use Rattle.decomposition.specs.Fit.{FitCall, FitEnd, allTests, fitOutcome, fitWork, fitRecord, fitEnd, houseBasis, houseCall, Found, AfterTests, IsFit}
+use Rattle.decomposition.specs.Fit.{FitCall, FitEnd, fitLengths, allTests, fitOutcome, fitWork, fitRecord, fitEnd, houseBasis, houseCall, Found, AfterTests, IsFit}
 use Rattle.decomposition.specs.Form.{Computes, Decomposition, form}
 use Rattle.decomposition.specs.Layout.{known, layout, sized, termsOf, Known}
 use Rattle.decomposition.specs.Record.{basisOf, readOutcome, recordOf, solutionOf}
@@ -137,6 +137,6 @@ zero-table n c q t =
 pub zero-house : (work out : List ℕ) → length work ≡ 448 → length out ≡ 33
     → let c = houseCall (replicate 16 0) work out in
     (fitOutcome 4 c ≡ done []) × (fitRecord 4 c ≡ recordOf (layout 4) houseBasis (replicate 18 0))
-unfolding layout sized termsOf houseBasis firstLarge
+unfolding layout sized termsOf houseBasis firstLarge fitLengths
 zero-house work out lw lo =
     rw length-exponents-4 at (zero-table 4 (houseCall (replicate 16 0) work out) refl (rw (lw, lo, length-exponents-4) refl))

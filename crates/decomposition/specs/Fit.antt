@@ -1,4 +1,5 @@
 -- The operations Fit and House fit.
+use mathlib.Core.Bool.{Bool, _&&_}
 use mathlib.Core.List.{List, [], _∷_, _++_}
 use mathlib.Core.Path.{_≡_}
 use Prim.Native.Nat.{ℕ}
@@ -34,15 +35,16 @@ pub record FitEnd : Type 0 where
 
 -- ---- the tests
 
+-- the lengths of table, basis, work and out: each is that of the layout
+unfoldable pub fitLengths : Layout → ℕ → ℕ → ℕ → ℕ → Bool
+fitLengths L table basis work out = eqb table (L .inputs) && (eqb basis (L .basis) && (eqb work (L .work) && eqb out (L .size)))
+
 -- the lengths, work and out being those of the work and of the record, then the entries, counted through table and basis
 abbrev pub fitTests : Layout → List ℕ → List ℕ → ℕ → ℕ → Outcome
 fitTests L table basis work out =
-    test (eqb (length table) (L .inputs)) 2 0
-    (test (eqb (length basis) (L .basis)) 2 0
-    (test (eqb work (L .work)) 2 0
-    (test (eqb out (L .size)) 2 0
+    test (fitLengths L (length table) (length basis) work out) 2 0
     (testBelow (L .inputs) 0 (table ++ basis)
-    (done [])))))
+    (done []))
 
 -- the width, and then these
 abbrev pub allTests : ℕ → FitCall → Outcome

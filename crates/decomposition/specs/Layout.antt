@@ -16,9 +16,9 @@ known n = eqb n 4 || eqb n 6
 abbrev pub Known : ℕ → Type 0
 Known n = known n ≡ true
 
--- t, the number of terms of the form p1·q1 + .. + p(t-1)·q(t-1) + pt
+-- t, the number of terms of the form p1·q1 + .. + p(t-1)·q(t-1) + pt, by width
 unfoldable pub termsOf : ℕ → ℕ
-termsOf n = cond (eqb n 4) 2 4
+termsOf n = cond (eqb n 4) 2 (cond (eqb n 6) 4 0)
 
 -- The layout for width n, e listed exponents and t terms. A record has 33 bytes at width 4 and 139 at width 6, the work 448 and 6,144 (proofs/Sizes.antt,
 -- `sizes-4` and `sizes-6`).
@@ -43,7 +43,7 @@ sized n e t = record {
 unfoldable pub layout : ℕ → Layout
 layout n = sized n (length (exponents n)) (termsOf n)
 
--- what the theory asks of a layout: its parts fit together, and are small enough for bytes and indices
+-- what the theory asks of a layout: its width is one of the field, its parts fit together, and are small enough for bytes and indices
 pub record Sizes (L : Layout) : Type 0 where
   pub width : Width (L .width)
   pub inputs : L .inputs ≡ 2 ^ L .width

@@ -1,6 +1,7 @@
 // The operation Check.
 ghost use mathlib.Core.Path.{_≡_};
 ghost use lib.ListN.{length};
+ghost use Rattle.refusal.specs.Outcome.{refused};
 ghost use Rattle.decomposition.specs.Layout.{Sizes};
 ghost use Rattle.decomposition.specs.Check.{recordForm, firstDifference, checkAt, checkReport, checkOutcome};
 use crate::layouts::Layout;
@@ -14,6 +15,15 @@ use refusal::first_large;
 pub enum CheckAnswer {
     Done,
     Refused { number: u8, place: usize },
+}
+
+impl CheckAnswer {
+    // A refusal.
+    fn refuse(number: u8, place: usize) -> CheckAnswer
+        ensures { λ r. ⌜ checkReport r ≡ refused number place ⌝ }
+    {
+        CheckAnswer::Refused { number, place }
+    }
 }
 
 // The first input at which the form of the record and the table differ, or the table's length if there is none.
@@ -42,24 +52,15 @@ fn check_at(layout: Layout, bytes: &[u8], table: &[u8]) -> CheckAnswer
     ensures { λ r. ⌜ checkReport r ≡ checkAt layout (now (bytes .entry)) (now (table .entry)) ⌝ }
 {
     if table.len() != layout.inputs {
-        return CheckAnswer::Refused {
-            number: 2,
-            place: 0,
-        };
+        return CheckAnswer::refuse(2, 0);
     }
     let large = first_large(layout.inputs as u8, table);
     if large < table.len() {
-        return CheckAnswer::Refused {
-            number: 3,
-            place: large,
-        };
+        return CheckAnswer::refuse(3, large);
     }
     let first = first_difference(layout, bytes, table);
     if first < table.len() {
-        return CheckAnswer::Refused {
-            number: 6,
-            place: first,
-        };
+        return CheckAnswer::refuse(6, first);
     }
     CheckAnswer::Done
 }
@@ -70,7 +71,7 @@ pub fn check(bytes: &[u8], table: &[u8]) -> CheckAnswer
 {
     let answer = read(bytes);
     match answer {
-        ReadAnswer::Refused { number, place } => CheckAnswer::Refused { number, place },
+        ReadAnswer::Refused { number, place } => CheckAnswer::refuse(number, place),
         ReadAnswer::Done { width } => check_at(layout_of(width), bytes, table),
     }
 }

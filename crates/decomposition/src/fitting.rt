@@ -2,9 +2,10 @@
 ghost use mathlib.Core.Path.{_≡_};
 ghost use Prim.Native.Nat.{_+_, _≤_};
 ghost use lib.ListN.{length, drop, replicate};
+ghost use Rattle.refusal.specs.Outcome.{refused};
 ghost use Rattle.decomposition.specs.Layout.{Sizes};
 ghost use Rattle.decomposition.specs.Record.{headed};
-ghost use Rattle.decomposition.specs.Fit.{fitTests, FitReady, fitEnd, houseCall, Found, AfterTests, fitReport, houseFitReport};
+ghost use Rattle.decomposition.specs.Fit.{fitLengths, fitTests, FitReady, fitEnd, houseCall, Found, AfterTests, fitReport, houseFitReport};
 use crate::equations::equations;
 use crate::equations::powers;
 use crate::layouts::Layout;
@@ -18,10 +19,28 @@ pub enum FitAnswer {
     Refused { number: u8, place: usize },
 }
 
+impl FitAnswer {
+    // A refusal.
+    fn refuse(number: u8, place: usize) -> FitAnswer
+        ensures { λ r. ⌜ fitReport r ≡ refused number place ⌝ }
+    {
+        FitAnswer::Refused { number, place }
+    }
+}
+
 // The answer of House fit.
 pub enum HouseFitAnswer {
     Done,
     Refused { number: u8, place: usize },
+}
+
+impl HouseFitAnswer {
+    // A refusal.
+    fn refuse(number: u8, place: usize) -> HouseFitAnswer
+        ensures { λ r. ⌜ houseFitReport r ≡ refused number place ⌝ }
+    {
+        HouseFitAnswer::Refused { number, place }
+    }
 }
 
 // The house basis of width 4: q1 = x + x² + x^12.
@@ -70,10 +89,23 @@ fn find(layout: Layout, table: &[u8], basis: &[u8], work: &mut [u8], out: &mut [
         write_head(width, basis, out);
         return FitAnswer::Done;
     }
-    FitAnswer::Refused {
-        number: 4,
-        place: 0,
+    FitAnswer::refuse(4, 0)
+}
+
+// Whether table, basis, work and out, of so many bytes, have the lengths of the layout.
+fn lengths_fit(layout: Layout, table: usize, basis: usize, work: usize, out: usize) -> bool
+    ensures { λ r. ⌜ r ≡ fitLengths layout table basis work out ⌝ }
+{
+    if table != layout.inputs {
+        return false;
     }
+    if basis != layout.basis {
+        return false;
+    }
+    if work != layout.work {
+        return false;
+    }
+    out == layout.size
 }
 
 // Fit's tests once the width is known: Done where all are passed. Work and out are the lengths of the work and the record.
@@ -81,35 +113,16 @@ fn fit_tests(layout: Layout, table: &[u8], basis: &[u8], work: usize, out: usize
     requires { ⌜ Sizes layout ⌝ }
     ensures { λ r. ⌜ fitReport r ≡ fitTests layout (now (table .entry)) (now (basis .entry)) work out ⌝ }
 {
-    let wrong_length = FitAnswer::Refused {
-        number: 2,
-        place: 0,
-    };
-    if table.len() != layout.inputs {
-        return wrong_length;
-    }
-    if basis.len() != layout.basis {
-        return wrong_length;
-    }
-    if work != layout.work {
-        return wrong_length;
-    }
-    if out != layout.size {
-        return wrong_length;
+    if !lengths_fit(layout, table.len(), basis.len(), work, out) {
+        return FitAnswer::refuse(2, 0);
     }
     let i = first_large(layout.inputs as u8, table);
     if i < table.len() {
-        return FitAnswer::Refused {
-            number: 3,
-            place: i,
-        };
+        return FitAnswer::refuse(3, i);
     }
     let j = first_large(layout.inputs as u8, basis);
     if j < basis.len() {
-        return FitAnswer::Refused {
-            number: 3,
-            place: i + j,
-        };
+        return FitAnswer::refuse(3, i + j);
     }
     FitAnswer::Done
 }
@@ -124,7 +137,7 @@ fn fit_at(layout: Layout, table: &[u8], basis: &[u8], work: &mut [u8], out: &mut
 {
     let tested = fit_tests(layout, table, basis, work.len(), out.len());
     match tested {
-        FitAnswer::Refused { number, place } => FitAnswer::Refused { number, place },
+        FitAnswer::Refused { number, place } => FitAnswer::refuse(number, place),
         FitAnswer::Done => find(layout, table, basis, work, out),
     }
 }
@@ -135,10 +148,7 @@ pub fn fit(width: u32, table: &[u8], basis: &[u8], work: &mut [u8], out: &mut [u
         ≡ fitEnd width (record { table = now (table .entry); basis = now (basis .entry); work = now (work .entry); out = now (out .entry) }) ⌝ }
 {
     if !known(width) {
-        return FitAnswer::Refused {
-            number: 1,
-            place: 0,
-        };
+        return FitAnswer::refuse(1, 0);
     }
     fit_at(layout_of(width), table, basis, work, out)
 }
@@ -151,7 +161,7 @@ pub fn house_fit(table: &[u8], work: &mut [u8], out: &mut [u8]) -> HouseFitAnswe
     let basis = HOUSE_BASIS;
     let answer = fit_at(layout_of(4), table, &basis, work, out);
     match answer {
-        FitAnswer::Refused { number, place } => HouseFitAnswer::Refused { number, place },
+        FitAnswer::Refused { number, place } => HouseFitAnswer::refuse(number, place),
         FitAnswer::Done => HouseFitAnswer::Done,
     }
 }

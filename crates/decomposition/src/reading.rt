@@ -2,6 +2,7 @@
 ghost use mathlib.Core.Path.{_≡_};
 ghost use Prim.Native.Nat.{_≤_};
 ghost use lib.ListN.{length};
+ghost use Rattle.refusal.specs.Outcome.{refused};
 ghost use Rattle.decomposition.specs.Layout.{Sizes};
 ghost use Rattle.decomposition.specs.Record as spec;
 ghost use Rattle.decomposition.specs.Record.{readAt, readReport, readOutcome};
@@ -14,6 +15,15 @@ use refusal::first_large;
 pub enum ReadAnswer {
     Done { width: u32 },
     Refused { number: u8, place: usize },
+}
+
+impl ReadAnswer {
+    // A refusal.
+    fn refuse(number: u8, place: usize) -> ReadAnswer
+        ensures { λ r. ⌜ readReport r ≡ refused number place ⌝ }
+    {
+        ReadAnswer::Refused { number, place }
+    }
 }
 
 // Whether the record begins with the letters `DCP` and the version.
@@ -43,17 +53,11 @@ fn read_at(layout: Layout, bytes: &[u8]) -> ReadAnswer
     ensures { λ r. ⌜ readReport r ≡ readAt layout (now (bytes .entry)) ⌝ }
 {
     if bytes.len() != layout.size {
-        return ReadAnswer::Refused {
-            number: 2,
-            place: 0,
-        };
+        return ReadAnswer::refuse(2, 0);
     }
     let at = first_large(layout.inputs as u8, &bytes[6..]);
     if at < bytes.len() - 6 {
-        return ReadAnswer::Refused {
-            number: 3,
-            place: 6 + at,
-        };
+        return ReadAnswer::refuse(3, 6 + at);
     }
     ReadAnswer::Done {
         width: layout.width,
@@ -65,23 +69,14 @@ pub fn read(bytes: &[u8]) -> ReadAnswer
     ensures { λ r. ⌜ readReport r ≡ readOutcome (now (bytes .entry)) ⌝ }
 {
     if bytes.len() < 6 {
-        return ReadAnswer::Refused {
-            number: 2,
-            place: 0,
-        };
+        return ReadAnswer::refuse(2, 0);
     }
     if !marked(bytes) {
-        return ReadAnswer::Refused {
-            number: 5,
-            place: 0,
-        };
+        return ReadAnswer::refuse(5, 0);
     }
     let width = bytes[5] as u32;
     if !known(width) {
-        return ReadAnswer::Refused {
-            number: 1,
-            place: 0,
-        };
+        return ReadAnswer::refuse(1, 0);
     }
     read_at(layout_of(width), bytes)
 }

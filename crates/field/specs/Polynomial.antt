@@ -8,12 +8,14 @@ use Rattle.xor.specs.Xor.{_⊕_}
 use Rattle.field.specs.Mul.{mul}
 use Rattle.field.specs.Power.{pow}
 
--- the exponents of a width, class by class: within a class each next power is the square of the one before
+-- the exponents of a width, class by class, none but at 4 and 6: within a class each next power is the square of the one before
 unfoldable pub classes : ℕ → List (List ℕ)
 classes n =
     cond (eqb n 4)
     ((0 ∷ []) ∷ (1 ∷ 2 ∷ 4 ∷ 8 ∷ []) ∷ (3 ∷ 6 ∷ 12 ∷ 9 ∷ []) ∷ [])
+    (cond (eqb n 6)
     ((0 ∷ []) ∷ (1 ∷ 2 ∷ 4 ∷ 8 ∷ 16 ∷ 32 ∷ []) ∷ (3 ∷ 6 ∷ 12 ∷ 24 ∷ 48 ∷ 33 ∷ []) ∷ (11 ∷ 22 ∷ 44 ∷ 25 ∷ 50 ∷ 37 ∷ []) ∷ [])
+    [])
 
 -- class number c, class 0 being that of the exponent 0 alone
 abbrev pub class : ℕ → ℕ → List ℕ

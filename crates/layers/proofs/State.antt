@@ -1,9 +1,8 @@
 -- The laws of shares in bytes: what a changed byte, and bytes that are written, do to the shares.
 use mathlib.Core.Path.{_≡_, sym, ap, ap₂, _∙_}
-use mathlib.Core.Logic.{_≢_}
 use mathlib.Core.List.{List}
 use Prim.Native.Nat.{ℕ, zero, suc, _+_, _-_, _*_, _/_, _%_, _^_, _≤_, _<_}
-use native.Mathlib.Nat.{mul-assoc, mul-le-mul-left, mul-suc, mod-eq-of-lt, lt-of-lt-of-le}
+use native.Mathlib.Nat.{mul-assoc, mod-eq-of-lt, lt-of-lt-of-le}
 use native.Mathlib.Decide.{decLt, ℕ-discrete}
 use native.Mathlib.Omega.{arith}
 use lib.Arith.{digits-lt}
@@ -14,29 +13,14 @@ use Rattle.xor.specs.Xor.{_⊕_}
 use Rattle.xor.specs.Sum.{Small}
 use Rattle.xor.proofs.Xor.{⊕-lt, ⊕-cancel, ⊕-assoc}
 use Rattle.field.proofs.Tests.{same-below}
-use Rattle.present.specs.Bytes.{fromBytes, toBytes}
+use Rattle.steps.specs.Bytes.{fromBytes, toBytes}
 use Rattle.present.specs.Present.{nibble, replace, size80, roundKey, rotate, roundNumber}
-use Rattle.present.proofs.Bytes.{length-to-bytes}
+use Rattle.steps.proofs.Bytes.{length-to-bytes}
 use Rattle.present.proofs.Numbers.{replace-is}
-use Rattle.layers.specs.State.{bytesAt, shareAt, Changed}
-use Rattle.layers.proofs.Number.{number-parts, number-lt, number-byte, number-same, number-set, paste-before, paste-after, number-put}
-
--- ---- where shares lie
-
--- a share that comes before another ends where the other begins, or earlier
-pub share-before : (w i j : ℕ) → i < j → w * i + w ≤ w * j
-share-before w i j h = rw (← mul-suc w i) (mul-le-mul-left w h)
+use Rattle.steps.specs.ShareBytes.{bytesAt, shareAt, Changed}
+use Rattle.steps.proofs.Number.{number-parts, number-lt, number-byte, number-same, number-set, paste-before, paste-after, number-put}
 
 -- ---- a share is changed
-
--- the other shares are as before
-pub changed-others : {w i x : ℕ} {l l′ : List ℕ} → Changed w i x l l′ → (j : ℕ) → j ≢ i → shareAt w l′ j ≡ shareAt w l j
-unfolding shareAt
-changed-others {w} {i} {x} {l} {l′} c j f = ap fromBytes (number-same (w * j) w l l′ (λ t h. go t h (decLt j i)))
-  where
-    go : (t : ℕ) → t < w → Dec (j < i) → getD l′ (w * j + t) 0 ≡ getD l (w * j + t) 0
-    go t h (yes k) = c .earlier (w * j + t) (omega (arith, share-before w j i k))
-    go t h (no k) = let g : i < j = omega arith in c .later (w * j + t) (omega (arith, share-before w i j g))
 
 pub changed-then : {w i x y : ℕ} {l m n : List ℕ} → Changed w i x l m → Changed w i y m n → Changed w i y l n
 changed-then h k =

@@ -3,8 +3,8 @@ ghost use mathlib.Core.Path.{_≡_};
 ghost use Prim.Native.Nat.{_+_, _*_, _^_, _<_, _≤_};
 ghost use lib.ListN.{length};
 ghost use lib.Seq.{paste};
-ghost use Rattle.present.specs.Bytes.{fromBytes, toBytes};
-ghost use Rattle.layers.specs.State.{bytesAt};
+ghost use Rattle.steps.specs.Bytes.{fromBytes, toBytes};
+ghost use Rattle.steps.specs.ShareBytes.{bytesAt};
 
 fn wide(x: u8) -> u64
     ensures { λ r. ⌜ (r ≡ x) × (r < 256) ⌝ }

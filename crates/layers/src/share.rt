@@ -4,7 +4,7 @@ ghost use Prim.Native.Nat.{_+_, _*_, _<_, _≤_};
 ghost use lib.ListN.{length};
 ghost use Rattle.xor.specs.Xor.{_⊕_};
 ghost use Rattle.present.specs.Present as present;
-ghost use Rattle.layers.specs.State.{shareAt, Changed};
+ghost use Rattle.steps.specs.ShareBytes.{shareAt, Changed};
 use crate::bytes::number;
 use crate::bytes::put_number;
 use crate::permutation::permute;

@@ -8,11 +8,13 @@ use Rattle.field.specs.Polynomial.{value}
 use Rattle.decomposition.specs.Layout.{layout}
 use Rattle.decomposition.specs.Record.{recordOf}
 use Rattle.decomposition.specs.Fit.{fitRecord, houseBasis, houseCall}
-use Rattle.steps.specs.Program.{result}
+use Rattle.steps.specs.Program.{result, trace}
+use Rattle.steps.specs.Watch.{watched}
+use Rattle.steps.specs.Call.{callCounts}
 use Rattle.steps.specs.Operations.{splitShares}
 use Rattle.product.specs.Product.{product}
 use Rattle.sbox.specs.Figures.{sboxSteps}
-use Rattle.sbox.specs.Operations.{callCounts}
+use Rattle.sbox.specs.Operations.{sboxCall}
 use Rattle.present.specs.Present.{place, size80, updateKey}
 
 -- a check: what the definitions give, and what the paper says of it
@@ -36,6 +38,10 @@ right = 4 ∷ 0 ∷ 1 ∷ []
 abbrev pub maskedProduct : List ℕ
 maskedProduct = result (product 4 3 left right) (1 ∷ 2 ∷ 3 ∷ [])
 
+-- the steps of its pair 0, 1: numbers 3 to 9
+abbrev pub pairSteps : List ℕ
+pairSteps = watched (3 ∷ 4 ∷ 5 ∷ 6 ∷ 7 ∷ 8 ∷ 9 ∷ []) (trace (product 4 3 left right) (1 ∷ 2 ∷ 3 ∷ []))
+
 -- (j) a record of width n, with every coefficient 0
 abbrev pub zeroRecord : ℕ → List ℕ
 zeroRecord n = recordOf (layout n) (replicate (layout n .basis) 0) (replicate (layout n .unknowns) 0)
@@ -44,9 +50,9 @@ zeroRecord n = recordOf (layout n) (replicate (layout n .basis) 0) (replicate (l
 abbrev pub zeroTable : List ℕ
 zeroTable = replicate 16 0
 
--- (a), (b), (c): products at width 4; (d): at width 6; (e): a masked product of three shares, what its factors join to, and what it joins to; (f), (g):
--- where bits 4 and 62 go; (h): the zero key after one update; (i): q1 of the house basis at 2; (j): the counts of a call with three shares (masked
--- products, random bytes and steps of its program), at width 4 and at width 6, and the figure for its steps
+-- (a), (b), (c): products at width 4; (d): at width 6; (e): a masked product of three shares, what its factors join to, what it joins to, and what a pair
+-- of its shares records; (f), (g): where bits 4 and 62 go; (h): the zero key after one update; (i): q1 of the house basis at 2; (j): the counts of a call
+-- with three shares (masked products, random bytes and steps of its program), at width 4 and at width 6, and the figure for its steps
 unfoldable pub computed : List Case
 computed =
     gives (mul 4 2 8 ∷ []) (3 ∷ [])
@@ -56,12 +62,13 @@ computed =
     ∷ gives (take 3 maskedProduct) (7 ∷ 10 ∷ 2 ∷ [])
     ∷ gives (join left ∷ join right ∷ []) (3 ∷ 5 ∷ [])
     ∷ gives (join maskedProduct ∷ mul 4 3 5 ∷ []) (15 ∷ 15 ∷ [])
+    ∷ gives pairSteps (1 ∷ 0 ∷ 1 ∷ 8 ∷ 9 ∷ 5 ∷ 9 ∷ [])
     ∷ gives (place 4 ∷ []) (1 ∷ [])
     ∷ gives (place 62 ∷ []) (47 ∷ [])
     ∷ gives (updateKey size80 1 0 ∷ []) (0xC0000000000000008000 ∷ [])
     ∷ gives (value 4 houseBasis 2 ∷ []) (9 ∷ [])
-    ∷ gives (callCounts (zeroRecord 4) 3 (replicate 3 0) (replicate 6 0)) (2 ∷ 6 ∷ 213 ∷ [])
-    ∷ gives (callCounts (zeroRecord 6) 3 (replicate 3 0) (replicate 15 0)) (5 ∷ 15 ∷ 930 ∷ [])
+    ∷ gives (callCounts (sboxCall (zeroRecord 4) 3 (replicate 3 0) (replicate 6 0))) (2 ∷ 6 ∷ 213 ∷ [])
+    ∷ gives (callCounts (sboxCall (zeroRecord 6) 3 (replicate 3 0) (replicate 15 0))) (5 ∷ 15 ∷ 930 ∷ [])
     ∷ gives (sboxSteps 4 3 ∷ sboxSteps 6 3 ∷ []) (213 ∷ 930 ∷ [])
     ∷ []
 

@@ -9,10 +9,11 @@ use Rattle.steps.specs.Sharing.{Close}
 use Rattle.steps.proofs.Coupling.{coupled-bind, coupled-for}
 use Rattle.steps.proofs.Sharing.{close-at}
 use Rattle.present.specs.Present.{nibble, Size, keyBits, Sound, topNibble, roundNumber, State}
-use Rattle.present.specs.Masked.{Hides, shareWise, alone, held, maskedAddRoundKey, maskedPermute, maskedRotate, addRoundNumber, maskedNibble}
+use Rattle.present.specs.Masked.{Hides, maskedAddRoundKey, maskedPermute, maskedRotate, addRoundNumber, maskedNibble}
+use Rattle.steps.specs.Sharing.{shareWise, alone, held}
 use Rattle.present.specs.Masked.{maskedSboxLayer, maskedTopNibbles, maskedUpdate, maskedRound, maskedEncrypt}
 use Rattle.present.proofs.Numbers.{nibble-linear, replace-linear, permute-linear, round-key-linear, rotate-linear, round-number-lt}
-use Rattle.present.proofs.Sharing.{close-map, close-share-wise, close-held, close-alone, sum-linear}
+use Rattle.steps.proofs.ShareWise.{close-map, close-share-wise, close-held, close-alone, sum-linear}
 use Rattle.present.proofs.Recording.{coupled-nibbles, coupled-recorded}
 
 -- ---- the S-box

@@ -7,7 +7,7 @@ use Rattle.xor.specs.Xor.{_⊕_}
 use Rattle.xor.specs.Sum.{join}
 use Rattle.steps.specs.Program.{Run, _>>=_, trace}
 use Rattle.steps.specs.Split.{split}
-use Rattle.steps.proofs.Split.{split-trace}
+use Rattle.steps.proofs.Splits.{split-trace}
 use Rattle.present.specs.Present.{Size, keyBits, State}
 use Rattle.present.specs.Masked.{maskedEncrypt}
 use Rattle.present.specs.Experiment.{experiment}

@@ -10,11 +10,12 @@ use Rattle.steps.specs.Sharing.{share, Sharing}
 use Rattle.steps.proofs.Shape.{shaped-bind, shaped-map}
 use Rattle.present.specs.Present.{nibble, replace, onNibble, substitute, sboxLayer, permute, Size, keyBits, Sound, roundKey, rotate, topNibble}
 use Rattle.present.specs.Present.{onTopNibbles, numberNibble, roundNumber, updateKey, State, addRoundKey, round, encrypt}
-use Rattle.present.specs.Masked.{Substitutes, shareWise, alone, held, maskedAddRoundKey, maskedPermute, maskedRotate, addRoundNumber}
+use Rattle.present.specs.Masked.{Substitutes, maskedAddRoundKey, maskedPermute, maskedRotate, addRoundNumber}
+use Rattle.steps.specs.Sharing.{shareWise, alone, held}
 use Rattle.present.specs.Masked.{maskedNibble, maskedSboxLayer, maskedTopNibbles, maskedUpdate, maskedRound, maskedEncrypt, nibblesShape}
 use Rattle.present.specs.Masked.{sharesShape, updateShape, roundShape, blockShape}
 use Rattle.present.proofs.Numbers.{nibble-linear, replace-linear, permute-linear, round-key-linear, rotate-linear, round-number-lt}
-use Rattle.present.proofs.Sharing.{sharing-map, sharing-share-wise, sharing-held, sharing-alone, sum-linear}
+use Rattle.steps.proofs.ShareWise.{sharing-map, sharing-share-wise, sharing-held, sharing-alone, sum-linear}
 use Rattle.present.proofs.Recording.{shaped-iterate, shaped-nibbles, shaped-recorded}
 
 -- ---- the S-box, for any f by which its program substitutes

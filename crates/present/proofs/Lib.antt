@@ -1,6 +1,4 @@
 pub mod Numbers
-pub mod Bytes
-pub mod Sharing
 pub mod Recording
 pub mod Joined
 pub mod Counts

@@ -7,21 +7,17 @@ use native.Mathlib.Nat.{mod-lt, mul-assoc, mul-comm, add-mul, zero-add, add-zero
 use native.Mathlib.Decide.{ℕ-discrete, decLt}
 use native.Mathlib.Omega.{arith}
 use lib.Arith.{digits-lt, digits-mod}
-use lib.Bits.{xor-block}
 use lib.Dec.{T, eqb}
 use lib.Pow.{pow-pos, pow-mono, pow-add, shl-lt, shr-lt, shl-shr, shr-shr, split}
 use Rattle.xor.specs.Xor.{_⊕_}
 use Rattle.xor.specs.Sum.{Additive}
 use Rattle.xor.proofs.Xor.{⊕-zero, zero-⊕, ⊕-lt, ⊕-cancel, ⊕-exchange, ⊕-shr, ⊕-mod, xor}
 use Rattle.steps.proofs.Tests.{told-apart}
+use Rattle.steps.proofs.Bytes.{⊕-block}
 use Rattle.present.specs.Present.{turns, iterate, bit, nibble, replace, place, send, permute, Size, keyBits, Sound, size80, roundKey, rotate, roundNumber}
-use Rattle.present.specs.Linear.{Linear, LinearPair}
+use Rattle.steps.specs.Linear.{Linear, LinearPair}
 
 -- ---- sums of blocks of bits
-
-pub ⊕-block : (k a b r s : ℕ) → r < 2 ^ k → s < 2 ^ k → (a * 2 ^ k + r) ⊕ (b * 2 ^ k + s) ≡ (a ⊕ b) * 2 ^ k + (r ⊕ s)
-unfolding _⊕_
-⊕-block k a b r s hr hs = xor-block k a b r s hr hs
 
 pub ⊕-shl : (a b k : ℕ) → (a ⊕ b) * 2 ^ k ≡ a * 2 ^ k ⊕ b * 2 ^ k
 ⊕-shl a b k =

@@ -12,7 +12,7 @@ use Rattle.steps.specs.Shape.{drawOf, Shape, touchesOf, bitsOf, drawsOf, Unifor
 use Rattle.steps.specs.Coupling.{Coupled}
 use Rattle.steps.specs.Sharing.{Sharing, Close}
 use Rattle.steps.proofs.Shape.{touches-append, bits-append, shaped-draws}
-use Rattle.steps.proofs.Split.{shaped-split-two, coupled-split-two, draws-bits, draws-touches}
+use Rattle.steps.proofs.Splits.{shaped-split-two, coupled-split-two, draws-bits, draws-touches}
 use Rattle.steps.proofs.Secrecy.{untouched-share, few-steps}
 use Rattle.present.specs.Present.{substitute, Size, keyBits, Sound, size80, State, encrypt}
 use Rattle.present.specs.Masked.{Substitutes, Hides, blockShape}

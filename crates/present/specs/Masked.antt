@@ -2,12 +2,11 @@
 -- share 0 first, that may have places past the s shares, with 0 in them.
 use mathlib.Core.List.{List, [], _∷_, _++_, map}
 use Prim.Native.Nat.{ℕ, _+_}
-use lib.ListN.{replicate}
 use Rattle.xor.specs.Xor.{_⊕_}
 use Rattle.steps.specs.Program.{one, Run, return, _>>=_, _>>_, note, for}
 use Rattle.steps.specs.Shape.{stepOf, Shape, Shaped, forShape}
 use Rattle.steps.specs.Coupling.{Coupled}
-use Rattle.steps.specs.Sharing.{share, Sharing, Close}
+use Rattle.steps.specs.Sharing.{share, Sharing, Close, shareWise, alone, held}
 use Rattle.present.specs.Present.{nibble, replace, permute, Size, roundKey, rotate, topNibble, numberNibble, roundNumber, State}
 
 -- ---- what is asked of the S-box's program
@@ -19,23 +18,6 @@ Substitutes f s σ sbox = (x : ℕ) (a : List ℕ) → Sharing 4 s x a → Shape
 -- Given sharings of nibbles that agree but for share u, its two runs are coupled but for share u, and end in such sharings.
 abbrev pub Hides : ℕ → (List ℕ → Run (List ℕ)) → Type 0
 Hides u sbox = (a b : List ℕ) → Close 4 u a b → Coupled u (Close 4 u) (sbox a) (sbox b)
-
--- ---- sharings, share by share
-
--- f of the shares of two sharings; past the end of a list its shares are 0
-unfoldable pub shareWise : (ℕ → ℕ → ℕ) → List ℕ → List ℕ → List ℕ
-shareWise f [] [] = []
-shareWise f [] (y ∷ b) = f 0 y ∷ shareWise f [] b
-shareWise f (x ∷ a) [] = f x 0 ∷ shareWise f a []
-shareWise f (x ∷ a) (y ∷ b) = f x y ∷ shareWise f a b
-
--- the sharing of c that has it all in share 0
-unfoldable pub alone : ℕ → List ℕ
-alone c = c ∷ []
-
--- a sharing held in nine places, 0 past its shares
-unfoldable pub held : List ℕ → List ℕ
-held a = shareWise _⊕_ a (replicate 9 0)
 
 -- ---- recording
 

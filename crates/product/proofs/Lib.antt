@@ -3,3 +3,4 @@ pub mod Shape
 pub mod Counts
 pub mod Coupling
 pub mod Runs
+pub mod ByShare

@@ -1,2 +1,3 @@
 pub mod Product
+pub mod ByShare
 pub mod Counts

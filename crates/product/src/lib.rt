@@ -4,9 +4,7 @@ ghost use lib.ListN.{length};
 ghost use Rattle.field.specs.Mul.{Width};
 ghost use Rattle.steps.specs.Program.{for};
 ghost use Rattle.steps.specs.Tape.{elements};
-ghost use Rattle.steps.specs.Machine.{Ready, Went};
-ghost use Rattle.steps.specs.Loop.{each};
-ghost use Rattle.product.specs.Counts.{eachPair};
+ghost use Rattle.steps.specs.Machine.{Ready, Went, ReadySteps, WentSteps};
 ghost use Rattle.product.specs.Product as spec;
 use steps::Counts;
 
@@ -31,8 +29,9 @@ fn pair(
 ) -> Counts
     requires { ⌜ Width width ⌝ }
     requires { ⌜ (i < 9) × (j < 9) × (9 ≤ length (now a)) × (9 ≤ length (now b)) ⌝ }
-    requires { ⌜ Ready 0 1 7 n (elements width (now random)) (now watch) (now values) ⌝ }
-    ensures { λ r. ⌜ Went 0 1 7 (elements width (now (random .entry))) (now (watch .entry))
+    requires { ⌜ Ready (elements width (now random)) (now watch)
+        (spec.pair width (now a) (now b) i j (now c)) n (now values) ⌝ }
+    ensures { λ r. ⌜ Went (elements width (now (random .entry))) (now (watch .entry))
         (spec.pair width (now (a .entry)) (now (b .entry)) i j (now (c .entry)))
         n (now (values .entry)) (now (c .exit)) r (now (values .exit)) ⌝ }
 {
@@ -70,8 +69,9 @@ fn row(
 ) -> Counts
     requires { ⌜ Width width ⌝ }
     requires { ⌜ (i < s) × (s ≤ 9) × (9 ≤ length (now a)) × (9 ≤ length (now b)) ⌝ }
-    requires { ⌜ Ready 0 (each 1 s (i + 1)) (each 7 s (i + 1)) n (elements width (now random)) (now watch) (now values) ⌝ }
-    ensures { λ r. ⌜ Went 0 (each 1 s (i + 1)) (each 7 s (i + 1)) (elements width (now (random .entry))) (now (watch .entry))
+    requires { ⌜ Ready (elements width (now random)) (now watch)
+        (spec.row width s (now a) (now b) i (now c)) n (now values) ⌝ }
+    ensures { λ r. ⌜ Went (elements width (now (random .entry))) (now (watch .entry))
         (spec.row width s (now (a .entry)) (now (b .entry)) i (now (c .entry)))
         n (now (values .entry)) (now (c .exit)) r (now (values .exit)) ⌝ }
 {
@@ -98,8 +98,9 @@ fn rows(
 ) -> Counts
     requires { ⌜ Width width ⌝ }
     requires { ⌜ (s ≤ 9) × (9 ≤ length (now a)) × (9 ≤ length (now b)) ⌝ }
-    requires { ⌜ Ready 0 (eachPair 1 s 0) (eachPair 7 s 0) n (elements width (now random)) (now watch) (now values) ⌝ }
-    ensures { λ r. ⌜ Went 0 (eachPair 1 s 0) (eachPair 7 s 0) (elements width (now (random .entry))) (now (watch .entry))
+    requires { ⌜ Ready (elements width (now random)) (now watch)
+        (for 0 s (spec.row width s (now a) (now b)) (now c)) n (now values) ⌝ }
+    ensures { λ r. ⌜ Went (elements width (now (random .entry))) (now (watch .entry))
         (for 0 s (spec.row width s (now (a .entry)) (now (b .entry))) (now (c .entry)))
         n (now (values .entry)) (now (c .exit)) r (now (values .exit)) ⌝ }
 {
@@ -126,8 +127,9 @@ fn pairs(
 ) -> Counts
     requires { ⌜ Width width ⌝ }
     requires { ⌜ (s ≤ 9) × (9 ≤ length (now a)) × (9 ≤ length (now b)) ⌝ }
-    requires { ⌜ Ready 0 (eachPair 1 s 0) (eachPair 7 s 0) n (elements width (now random)) (now watch) (now values) ⌝ }
-    ensures { λ r. ⌜ Went 0 (eachPair 1 s 0) (eachPair 7 s 0) (elements width (now (random .entry))) (now (watch .entry))
+    requires { ⌜ Ready (elements width (now random)) (now watch)
+        (for 0 s (spec.row width s (now a) (now b)) (now c)) n (now values) ⌝ }
+    ensures { λ r. ⌜ Went (elements width (now (random .entry))) (now (watch .entry))
         (for 0 s (spec.row width s (now (a .entry)) (now (b .entry))) (now (c .entry)))
         n (now (values .entry)) (now (c .exit)) r (now (values .exit)) ⌝ }
 {
@@ -144,27 +146,21 @@ fn start(
     a: &[u8],
     b: &[u8],
     i: usize,
-    random: &[u8],
     watch: &[u32],
     values: &mut [u8],
     c: &mut [u8; 9],
-    n: Counts,
-) -> Counts
+    n: u32,
+) -> u32
     requires { ⌜ Width width ⌝ }
     requires { ⌜ (i < 9) × (9 ≤ length (now a)) × (9 ≤ length (now b)) ⌝ }
-    requires { ⌜ Ready 0 0 1 n (elements width (now random)) (now watch) (now values) ⌝ }
-    ensures { λ r. ⌜ Went 0 0 1 (elements width (now (random .entry))) (now (watch .entry))
-        (spec.start width (now (a .entry)) (now (b .entry)) i (now (c .entry)))
+    requires { ⌜ ReadySteps (now watch) (spec.start width (now a) (now b) i (now c)) n (now values) ⌝ }
+    ensures { λ r. ⌜ WentSteps (now (watch .entry)) (spec.start width (now (a .entry)) (now (b .entry)) i (now (c .entry)))
         n (now (values .entry)) (now (c .exit)) r (now (values .exit)) ⌝ }
 {
     let v = field::mul(width, a[i], b[i]);
-    let next = steps::record(watch, values, n.steps, v);
+    let next = steps::record(watch, values, n, v);
     c[i] = v;
-    Counts {
-        products: n.products,
-        random: n.random,
-        steps: next,
-    }
+    next
 }
 
 // The product of each share of a and the same share of b.
@@ -173,26 +169,24 @@ fn starts(
     s: usize,
     a: &[u8],
     b: &[u8],
-    random: &[u8],
     watch: &[u32],
     values: &mut [u8],
     c: &mut [u8; 9],
-    n: Counts,
-) -> Counts
+    n: u32,
+) -> u32
     requires { ⌜ Width width ⌝ }
     requires { ⌜ (s ≤ 9) × (9 ≤ length (now a)) × (9 ≤ length (now b)) ⌝ }
-    requires { ⌜ Ready 0 0 (each 1 s 0) n (elements width (now random)) (now watch) (now values) ⌝ }
-    ensures { λ r. ⌜ Went 0 0 (each 1 s 0) (elements width (now (random .entry))) (now (watch .entry))
-        (for 0 s (spec.start width (now (a .entry)) (now (b .entry))) (now (c .entry)))
+    requires { ⌜ ReadySteps (now watch) (for 0 s (spec.start width (now a) (now b)) (now c)) n (now values) ⌝ }
+    ensures { λ r. ⌜ WentSteps (now (watch .entry)) (for 0 s (spec.start width (now (a .entry)) (now (b .entry))) (now (c .entry)))
         n (now (values .entry)) (now (c .exit)) r (now (values .exit)) ⌝ }
 {
-    let mut n = n;
+    let mut next = n;
     let mut i = 0;
     while i < s {
-        n = start(width, a, b, i, random, watch, &mut *values, &mut *c, n);
+        next = start(width, a, b, i, watch, &mut *values, &mut *c, next);
         i += 1;
     }
-    n
+    next
 }
 
 // The masked product of the sharings a and b, of s shares.
@@ -208,19 +202,20 @@ pub fn product(
 ) -> Masked
     requires { ⌜ Width width ⌝ }
     requires { ⌜ (s ≤ 9) × (9 ≤ length (now a)) × (9 ≤ length (now b)) ⌝ }
-    requires { ⌜ Ready 1 (eachPair 1 s 0) (each 1 s 0 + eachPair 7 s 0) n (elements width (now random)) (now watch) (now values) ⌝ }
-    ensures { λ r. ⌜ Went 1 (eachPair 1 s 0) (each 1 s 0 + eachPair 7 s 0) (elements width (now (random .entry))) (now (watch .entry))
+    requires { ⌜ Ready (elements width (now random)) (now watch)
+        (spec.product width s (now a) (now b)) n (now values) ⌝ }
+    ensures { λ r. ⌜ Went (elements width (now (random .entry))) (now (watch .entry))
         (spec.product width s (now (a .entry)) (now (b .entry)))
         n (now (values .entry)) (r .shares) (r .counts) (now (values .exit)) ⌝ }
 {
     let mut c = [0u8; 9];
     let begun = n.products + 1;
+    let k = starts(width, s, a, b, watch, &mut *values, &mut c, n.steps);
     let n = Counts {
         products: begun,
         random: n.random,
-        steps: n.steps,
+        steps: k,
     };
-    let n = starts(width, s, a, b, random, watch, &mut *values, &mut c, n);
     let n = pairs(width, s, a, b, random, watch, values, &mut c, n);
     Masked {
         shares: c,

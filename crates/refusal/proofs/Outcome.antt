@@ -38,10 +38,11 @@ then-alike (done v) next c c′ e h = ap next (h v refl) ∙ ap (λ (p : Outcome
 then-alike (refused number place) next c c′ e h = ap (λ (p : Outcome). andThen p (next c′)) e
 
 -- the operation is refused, and has written nothing
-pub refuses : {outcome : Outcome} {number place : ℕ} {new old : List ℕ}
+pub refuses : {outcome report : Outcome} {number place : ℕ} {new old : List ℕ}
+    → report ≡ refused number place
     → outcome ≡ refused number place
-    → Answered outcome new old (refused number place) old
-refuses e = record { answer = sym e; output = rw e }
+    → Answered outcome new old report old
+refuses r e = record { answer = r ∙ sym e; output = rw e }
 
 -- the operation succeeds, and has written its output
 pub succeeds : {outcome : Outcome} {numbers : List ℕ} {new old left : List ℕ}

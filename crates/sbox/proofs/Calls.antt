@@ -1,98 +1,138 @@
 -- The laws of calls: the arguments that pass the tests, and what a run hands back and writes.
-use mathlib.Core.Path.{_≡_, sym, _∙_, subst}
-use mathlib.Core.Logic.{inl, inr}
-use mathlib.Core.Bool.{Bool, true}
+use mathlib.Core.Path.{_≡_, refl, sym, ap, _∙_, subst}
+use mathlib.Core.Bool.{Bool, true, and-eq-true-iff}
 use mathlib.Core.List.{List, [], _∷_, _++_}
-use Prim.Native.Nat.{ℕ, suc, _+_, _-_, _*_, _^_, _≤_, _<_}
+use Prim.Native.Nat.{ℕ, _+_, _-_, _*_, _^_, _≤_, _<_}
 use native.Mathlib.Nat.{mul-le-mul}
 use native.Mathlib.Decide.{decLt}
 use native.Mathlib.Omega.{arith}
-use borrow.Author.Tests.{eqb-true}
+use borrow.Author.Tests.{eqb-true, eq-eqb, leb-true}
 use lib.Dec.{leb, eqb}
-use lib.ListN.{length, getD, List·getD-eq-default}
-use Rattle.refusal.specs.Outcome.{done}
+use lib.ListN.{length, List·getD-eq-default}
+use lib.Pow.{pow-pos}
+use Rattle.xor.specs.Sum.{join, Small}
+use Rattle.refusal.specs.Outcome.{Outcome, done, andThen}
+use Rattle.refusal.specs.Watch.{listFits, testSteps}
 use Rattle.refusal.specs.Range.{oneTo}
 use Rattle.refusal.specs.Large.{firstLarge}
 use Rattle.refusal.proofs.Outcome.{passed, then-passed}
 use Rattle.refusal.proofs.Range.{one-to-range}
-use Rattle.refusal.proofs.Large.{all-small}
-use Rattle.field.specs.Mul.{Width}
+use Rattle.refusal.proofs.Large.{all-small, both-small}
 use Rattle.field.specs.Polynomial.{exponents}
-use Rattle.steps.specs.Sharing.{share, Filled}
+use Rattle.steps.specs.Sharing.{share, Sharing, Filled}
 use Rattle.steps.specs.Fill.{tabulate}
 use Rattle.steps.specs.Tape.{elements, bytesFor}
 use Rattle.steps.specs.declared.counts.Counts.{Counts}
-use Rattle.steps.specs.Recorder.{AllBelow}
 use Rattle.steps.specs.Machine.{zeroCounts, Ready, Went, Whole}
-use Rattle.steps.proofs.Machine.{went-watched}
-use Rattle.steps.proofs.Tape.{elements-enough}
-use Rattle.decomposition.specs.Layout.{termsOf, sized, layout}
+use Rattle.steps.specs.Call.{callCounts, Takes}
+use Rattle.steps.specs.Call as call-spec
+use Rattle.steps.proofs.Call as call
+use Rattle.decomposition.specs.Layout.{termsOf, sized, layout, Known}
 use Rattle.decomposition.specs.Record.{widthOf, readOutcome, Accepted}
 use Rattle.decomposition.proofs.ReadOutcome.{read-values}
-use Rattle.decomposition.proofs.Sizes.{known-width}
+use Rattle.decomposition.proofs.Sizes.{known-both}
 use Rattle.sbox.specs.Form.{basisSize}
 use Rattle.sbox.specs.Figures.{sboxProducts, sboxDraws, sboxSteps}
 use Rattle.sbox.specs.Polynomials.{basisIn, solutionIn}
 use Rattle.sbox.specs.Sbox.{sbox}
-use Rattle.sbox.specs.Operations.{callProgram, callCounts, argumentTests, callTests, sboxOutput, watchOutput, SameShares, Callable}
+use Rattle.sbox.specs.Operations.{callProgram, sboxCall, sboxLengths, argumentTests, callTests, sboxOutput, watchOutput, SameShares, Callable, watchOutcome}
 use Rattle.sbox.proofs.Places.{sbox-same}
+use Rattle.sbox.proofs.Record.{accepted-record}
+use Rattle.sbox.proofs.Runs.{takes}
 
 -- ---- numbers stay small
 
 pub few-pairs : {s : ℕ} → s ≤ 9 → s * (s - 1) ≤ 72
 few-pairs {s} h = mul-le-mul {n₂ = 9} {m₂ = 8} h (omega arith)
 
-pub few-taken : (n s : ℕ) → Width n → s ≤ 9 → (sboxProducts n < 6) × (sboxDraws n s < 200) × (sboxSteps n s < 4000)
+pub few-taken : (n s : ℕ) → Known n → s ≤ 9 → (sboxProducts n < 6) × (sboxDraws n s < 200) × (sboxSteps n s < 4000)
 unfolding sboxProducts sboxDraws sboxSteps
-few-taken n s (inl e) h = rw e (omega (arith, few-pairs h))
-few-taken n s (inr e) h = rw e (omega (arith, few-pairs h))
+few-taken n s w h =
+    known-both (λ n. (sboxProducts n < 6) × (sboxDraws n s < 200) × (sboxSteps n s < 4000))
+    (omega (arith, few-pairs h)) (omega (arith, few-pairs h)) n w
 
 -- ---- a call that passes the tests
 
 -- the record is as long as the code asks
 pub record-room : {n : ℕ} {r : List ℕ} → Accepted n r → 6 + (basisSize n + (basisSize n + 1)) * length (exponents n) ≤ length r
 unfolding basisSize layout sized termsOf
-record-room {n} {r} a = go (known-width n (a .width))
-  where
-    go : Width n → 6 + (basisSize n + (basisSize n + 1)) * length (exponents n) ≤ length r
-    go (inl e) = let w = rw e at (a .whole) in rw e (omega (arith, w))
-    go (inr e) = let w = rw e at (a .whole) in rw e (omega (arith, w))
+record-room {n} {r} a =
+    known-both (λ n. length r ≡ layout n .size → 6 + (basisSize n + (basisSize n + 1)) * length (exponents n) ≤ length r)
+    (λ e. omega arith) (λ e. omega arith) n (a .width) (a .whole)
+
+-- the lengths that a call takes, and that these are all
+pub call-lengths : (n s shares random : ℕ) (fits : Bool) → sboxLengths n s shares random fits ≡ true
+    → (shares ≡ s) × (random ≡ bytesFor n (sboxDraws n s)) × (fits ≡ true)
+unfolding sboxLengths
+call-lengths n s shares random fits e =
+    let a = and-eq-true-iff (eqb shares s) _ .0 e in
+    let b = and-eq-true-iff (eqb random (bytesFor n (sboxDraws n s))) fits .0 (a .1) in
+    (eqb-true _ _ (a .0), eqb-true _ _ (b .0), b .1)
+
+pub call-lengths-right : (n s shares random : ℕ) (fits : Bool) → shares ≡ s → random ≡ bytesFor n (sboxDraws n s) → fits ≡ true
+    → sboxLengths n s shares random fits ≡ true
+unfolding sboxLengths
+call-lengths-right n s shares random fits es er ef = rw (eq-eqb shares s es, eq-eqb random (bytesFor n (sboxDraws n s)) er, ef) refl
 
 only : {n m : ℕ} → done (n ∷ []) ≡ done (m ∷ []) → n ≡ m
 only e = cc
 
 -- where the tests are passed, so is each of them
-pub tests-passed : (r : List ℕ) (s : ℕ) (shares random : List ℕ) (fits : Bool) (n : ℕ) → callTests r s shares random fits ≡ done (n ∷ [])
-    → Callable n r s shares random × (fits ≡ true)
+pub passed-call : (r : List ℕ) (s : ℕ) (shares random : List ℕ) (fits : Bool) {v : List ℕ} → callTests r s shares random fits ≡ done v
+    → Callable (widthOf r) r s shares random × (fits ≡ true) × (done (widthOf r ∷ []) ≡ done v)
 unfolding callTests argumentTests
-tests-passed r s shares random fits n e =
+passed-call r s shares random fits e =
     let m = widthOf r in
     let a = then-passed (readOutcome r) _ e in
     let b = passed (oneTo 9 s) 7 0 _ (a .2) in
-    let c = passed (eqb (length shares) s) 2 0 _ (b .1) in
-    let d = passed (eqb (length random) (bytesFor m (sboxDraws m s))) 2 0 _ (c .1) in
-    let f = passed fits 2 0 _ (d .1) in
+    let c = passed (sboxLengths m s (length shares) (length random) fits) 2 0 _ (b .1) in
+    let lengths = call-lengths m s (length shares) (length random) fits (c .0) in
     let l = shares ++ elements m random in
-    let g = passed (leb (length l) (firstLarge (2 ^ m) l)) 3 (0 + firstLarge (2 ^ m) l) _ (f .1) in
+    let g = passed (leb (length l) (firstLarge (2 ^ m) l)) 3 (0 + firstLarge (2 ^ m) l) _ (c .1) in
+    let small = both-small (2 ^ m) shares (elements m random) (leb-true (length l) (firstLarge (2 ^ m) l) (g .0)) in
     let range = one-to-range 9 s (b .0) in
     let callable : Callable m r s shares random = record {
       accepted = read-values r (a .1) .0;
       some = range .0;
       nine = range .1;
-      shares-length = eqb-true (length shares) s (c .0);
-      random-length = eqb-true (length random) (bytesFor m (sboxDraws m s)) (d .0);
+      shares-length = lengths .0;
+      random-length = lengths .1;
+      shares-small = all-small (2 ^ m) shares (pow-pos m) (small .0);
+      random-small = all-small (2 ^ m) (elements m random) (pow-pos m) (small .1);
     } in
-    (subst (λ (k : ℕ). Callable k r s shares random) (only (g .1)) callable, f .0)
+    (callable, lengths .2, g .1)
+
+-- the same where they hand on the width n
+pub tests-passed : (r : List ℕ) (s : ℕ) (shares random : List ℕ) (fits : Bool) (n : ℕ) → callTests r s shares random fits ≡ done (n ∷ [])
+    → Callable n r s shares random × (fits ≡ true)
+tests-passed r s shares random fits n e =
+    let p = passed-call r s shares random fits e in
+    (subst (λ (k : ℕ). Callable k r s shares random) (only (p .2)) (p .0), p .1)
 
 -- ---- its run
 
--- a call may run
-pub call-ready : {n s : ℕ} {r shares random watch vs : List ℕ} → Callable n r s shares random → length watch ≡ length vs
-    → Ready (sboxProducts n) (sboxDraws n s) (sboxSteps n s) zeroCounts (elements n random) watch vs
-call-ready {n} {s} {random = random} a e =
-    let few = few-taken n s (known-width n (a .accepted .width)) (a .nine) in
-    let enough = elements-enough n random (sboxDraws n s) (a .random-length) in
-    record { products-fit = omega arith; draws-fit = omega arith; steps-fit = omega arith; enough = omega arith; places = e }
+-- s small elements are a sharing of their sum
+pub sharing-of : (n s : ℕ) (a : List ℕ) → length a ≡ s → Small n a → Sharing n s (join a) a
+sharing-of n s a e h = record { small = h; past = λ i l. List·getD-eq-default a 0 {n = i} (omega arith); joins = refl }
+
+-- what a call takes
+module _ {n s : ℕ} {r shares random : List ℕ} (a : Callable n r s shares random) where
+  pub call-takes : Takes (callProgram r s shares) (elements (widthOf r) random) (sboxProducts n) (sboxDraws n s) (sboxSteps n s)
+  unfolding callProgram
+  call-takes =
+      let accepted = accepted-record n r (a .accepted) in
+      let sharing = sharing-of n s shares (a .shares-length) (a .shares-small) in
+      rw (a .accepted .named) (takes accepted s (join shares) shares (elements n random) (a .some) (a .nine) sharing (a .random-small))
+
+  -- it may run
+  pub call-ready : {watch vs : List ℕ} → length watch ≡ length vs → Ready (elements n random) watch (callProgram r s shares) zeroCounts vs
+  unfolding sboxCall
+  call-ready {watch} {vs} e =
+      let few = few-taken n s (a .accepted .width) (a .nine) in
+      let bytes : length random ≡ bytesFor (widthOf r) (sboxDraws n s) = rw (a .accepted .named) (a .random-length) in
+      let ready : Ready (elements (widthOf r) random) watch (callProgram r s shares) zeroCounts vs =
+      call.call-ready (sboxCall r s shares random) call-takes (omega arith) (omega arith) (omega arith) bytes e in
+      rw (a .accepted .named) at ready
 
 -- x has the same shares as those lent
 pub call-program : {n s : ℕ} {r shares random : List ℕ} (x : List ℕ) → Callable n r s shares random → SameShares x shares
@@ -101,35 +141,40 @@ unfolding callProgram
 call-program {n} {s} {r} {shares} x a same = rw (a .accepted .named) (sbox-same n s x shares same (basisIn n r) (solutionIn n r))
 
 -- what a call's run hands back and writes
-pub call-counts : {n s : ℕ} {r shares random x : List ℕ} {c : Counts} → Callable n r s shares random
-    → Whole (elements n random) (callProgram r s shares) x c
-    → callCounts r s shares random ≡ c .products ∷ bytesFor n (c .random) ∷ c .steps ∷ []
-unfolding callCounts
-call-counts a w = rw (a .accepted .named, ← (w .products-are), ← (w .draws-are), ← (w .steps-are))
+module _ {n s : ℕ} {r shares random : List ℕ} (a : Callable n r s shares random) where
+  pub call-counts : {x : List ℕ} {c : Counts} → Whole (elements n random) (callProgram r s shares) x c
+      → callCounts (sboxCall r s shares random) ≡ c .products ∷ bytesFor n (c .random) ∷ c .steps ∷ []
+  unfolding sboxCall
+  call-counts {x} {c} w =
+      let v : Whole (elements (widthOf r) random) (callProgram r s shares) x c = rw (a .accepted .named) w in
+      call.call-counts (sboxCall r s shares random) v ∙ ap (λ (k : ℕ). c .products ∷ bytesFor k (c .random) ∷ c .steps ∷ []) (a .accepted .named)
 
-pub call-output : {n s : ℕ} {r shares random x : List ℕ} {c : Counts} → Callable n r s shares random
-    → Whole (elements n random) (callProgram r s shares) x c → tabulate s (share x) ≡ sboxOutput r s shares random
-unfolding sboxOutput
-call-output a w = rw (a .accepted .named, w .result-is)
+  pub call-output : {x : List ℕ} {c : Counts} → Whole (elements n random) (callProgram r s shares) x c
+      → tabulate s (share x) ≡ sboxOutput r s shares random
+  unfolding sboxOutput sboxCall
+  call-output {x} {c} w =
+      let v : Whole (elements (widthOf r) random) (callProgram r s shares) x c = rw (a .accepted .named) w in
+      ap (λ (y : List ℕ). tabulate s (share y)) (call.call-result (sboxCall r s shares random) v)
 
--- what a watch leaves, where each number of the list is that of a step
-pub all-below : (n : ℕ) (l : List ℕ) → ((k : ℕ) → getD l k 0 < n) → AllBelow n l
-all-below n [] h = tt
-all-below n (x ∷ l) h = (h 0, all-below n l (λ k. h (suc k)))
+  -- what a watch leaves, where each number of the list is that of a step
+  some-steps : 0 < sboxSteps n s
+  unfolding sboxSteps
+  some-steps = known-both (λ n. 0 < sboxSteps n s) (omega (arith, a .some)) (omega (arith, a .some)) n (a .accepted .width)
 
-some-steps : (n s : ℕ) → Width n → 0 < s → 0 < sboxSteps n s
-unfolding sboxSteps
-some-steps n s (inl e) h = rw e (omega arith)
-some-steps n s (inr e) h = rw e (omega arith)
+  pub call-watched : {list vs x vs′ : List ℕ} {c : Counts} → length list ≡ length vs → length list ≤ firstLarge (sboxSteps n s) list
+      → Went (elements n random) list (callProgram r s shares) zeroCounts vs x c vs′ → vs′ ≡ watchOutput r s shares random list
+  unfolding watchOutput sboxCall
+  call-watched {list} {vs} {x} {vs′} {c} e below w =
+      let v : Went (elements (widthOf r) random) list (callProgram r s shares) zeroCounts vs x c vs′ = rw (a .accepted .named) w in
+      call.call-watched (sboxCall r s shares random) (call-takes a) some-steps e below v
 
-pub call-watched : {n s : ℕ} {r shares random list vs x vs′ : List ℕ} {c : Counts} → Callable n r s shares random → length list ≡ length vs
-    → length list ≤ firstLarge (sboxSteps n s) list
-    → Went (sboxProducts n) (sboxDraws n s) (sboxSteps n s) (elements n random) list (callProgram r s shares) zeroCounts vs x c vs′
-    → vs′ ≡ watchOutput r s shares random list
-unfolding watchOutput
-call-watched {n} {s} {list = list} a e below w =
-    rw (a .accepted .named)
-    (went-watched w e (all-below (sboxSteps n s) list (all-small (sboxSteps n s) list (some-steps n s (known-width n (a .accepted .width)) (a .some)) below)))
+  -- what a watch answers, once the tests but the last are passed
+  pub watch-tests : (list : List ℕ) (values : ℕ) {v : List ℕ} → callTests r s shares random (listFits (length list) values) ≡ done v
+      → watchOutcome r s shares random list values ≡ testSteps (sboxSteps n s) list (done (callCounts (sboxCall r s shares random)))
+  unfolding watchOutcome sboxCall call-spec.watchOutcome
+  watch-tests list values e =
+      ap (λ (o : Outcome). andThen o (testSteps (sboxSteps (widthOf r) s) list (done (callCounts (sboxCall r s shares random))))) e
+      ∙ ap (λ (k : ℕ). testSteps (sboxSteps k s) list (done (callCounts (sboxCall r s shares random)))) (a .accepted .named)
 
 -- ---- shares that are copied
 

@@ -1,73 +1,37 @@
 -- Masked S-boxes of sharings that agree but for share u are coupled but for share u.
-use mathlib.Core.Path.{refl, ap₂}
-use mathlib.Core.Bool.{Bool, true, false}
 use mathlib.Core.List.{List, [], _∷_}
-use Prim.Native.Nat.{ℕ, zero, suc, _+_, _-_, _^_, _<_}
+use Prim.Native.Nat.{ℕ, zero, suc, _+_, _-_}
 use native.Mathlib.Omega.{arith}
-use lib.Dec.{eqb}
 use lib.ListN.{length, getD}
-use Rattle.xor.specs.Xor.{_⊕_}
 use Rattle.xor.specs.Sum.{Small}
-use Rattle.xor.proofs.Xor.{⊕-lt}
-use Rattle.field.specs.Mul.{mul, Ring}
+use Rattle.field.specs.Mul.{Ring}
 use Rattle.field.specs.Polynomial.{exponents}
-use Rattle.field.proofs.Ring.{mul-small}
 use Rattle.steps.specs.Coupling.{Coupled, coupled-return}
 use Rattle.steps.specs.Sharing.{share, CloseAt, Close, CloseAll, close-nil, close-cons}
 use Rattle.steps.proofs.Coupling.{coupled-bind, coupled-for}
 use Rattle.steps.proofs.Sharing.{close-at, close-nth, close-append, coupled-note}
 use Rattle.product.proofs.Coupling.{coupled-product}
-use Rattle.sbox.specs.Sbox.{nth, square, squares, thirdClass, powers, constant, term, polynomial, polynomials, products, total, sbox}
+use Rattle.product.proofs.ByShare.{close-same, close-add, close-mul, coupled-squares, coupled-by-share}
+use Rattle.sbox.specs.Sbox.{factors, classesAfter, powers, constant, term, polynomial, polynomials, products, total, sbox}
+use Rattle.product.specs.ByShare.{nth}
 use Rattle.sbox.specs.Form.{SmallAll, Coefficients}
-use Rattle.sbox.proofs.ByShare.{constant-small, coupled-by-share}
-
--- ---- elements of one share
-
--- the same element on both sides
-close-same : {n u i v : ℕ} → v < 2 ^ n → CloseAt n u i v v
-close-same h = record { agree = λ f. refl; small = h; small′ = h }
-
-close-add : {n u i v v′ w w′ : ℕ} → CloseAt n u i v v′ → CloseAt n u i w w′ → CloseAt n u i (v ⊕ w) (v′ ⊕ w′)
-close-add {n} p q = record {
-  agree = λ f. ap₂ _⊕_ (p .agree f) (q .agree f);
-  small = ⊕-lt n (p .small) (q .small);
-  small′ = ⊕-lt n (p .small′) (q .small′);
-}
-
-close-mul : {n u i v v′ w w′ : ℕ} → Ring n → CloseAt n u i v v′ → CloseAt n u i w w′ → CloseAt n u i (mul n v w) (mul n v′ w′)
-close-mul {n} {v = v} {v′ = v′} {w = w} {w′ = w′} ring p q = record {
-  agree = λ f. ap₂ (mul n) (p .agree f) (q .agree f);
-  small = mul-small ring v w (p .small);
-  small′ = mul-small ring v′ w′ (p .small′);
-}
+use Rattle.sbox.proofs.FirstShare.{constant-small}
 
 -- ---- the S-box
 
 module _ {n : ℕ} (ring : Ring n) (s u : ℕ) where
-  coupled-square : {a a′ : List ℕ} → Close n u a a′ → Coupled u (Close n u) (square n s a) (square n s a′)
-  unfolding square
-  coupled-square h = coupled-by-share s (λ i. coupled-note i (close-mul ring (close-at h i) (close-at h i)))
-
-  coupled-squares : (k : ℕ) {a a′ : List ℕ} → Close n u a a′ → Coupled u (CloseAll n u) (squares n s k a) (squares n s k a′)
-  unfolding squares
-  coupled-squares zero h = coupled-return (close-cons h close-nil)
-  coupled-squares (suc k) h =
-      coupled-bind (coupled-square h) λ b b′ hb. coupled-bind (coupled-squares k hb) λ l l′ hl. coupled-return (close-cons h hl)
-
-  coupled-third : (b : Bool) {xs xs′ ys ys′ : List (List ℕ)} → CloseAll n u xs xs′ → CloseAll n u ys ys′
-      → Coupled u (CloseAll n u) (thirdClass b n s xs ys) (thirdClass b n s xs′ ys′)
-  unfolding thirdClass
-  coupled-third true hx hy = coupled-bind (coupled-product ring u (close-nth hy 0) (close-nth hx 3) s) λ z z′ hz. coupled-squares (n - 1) hz
-  coupled-third false hx hy = coupled-return close-nil
+  coupled-classes : (fs : List (ℕ × ℕ)) {ws ws′ : List (List ℕ)} → CloseAll n u ws ws′
+      → Coupled u (CloseAll n u) (classesAfter n s fs ws) (classesAfter n s fs ws′)
+  unfolding classesAfter
+  coupled-classes [] h = coupled-return h
+  coupled-classes (f ∷ fs) h =
+      coupled-bind (coupled-product ring u (close-nth h (f .0)) (close-nth h (f .1)) s) λ y y′ hy.
+      coupled-bind (coupled-squares ring s u (n - 1) hy) λ ys ys′ hys.
+      coupled-classes fs (close-append h hys)
 
   coupled-powers : {a a′ : List ℕ} → Close n u a a′ → Coupled u (CloseAll n u) (powers n s a) (powers n s a′)
   unfolding powers
-  coupled-powers h =
-      coupled-bind (coupled-squares (n - 1) h) λ xs xs′ hx.
-      coupled-bind (coupled-product ring u (close-nth hx 0) (close-nth hx 1) s) λ y y′ hy.
-      coupled-bind (coupled-squares (n - 1) hy) λ ys ys′ hys.
-      coupled-bind (coupled-third (eqb n 6) hx hys) λ zs zs′ hz.
-      coupled-return (close-append hx (close-append hys hz))
+  coupled-powers h = coupled-bind (coupled-squares ring s u (n - 1) h) λ xs xs′ hx. coupled-classes (factors n) hx
 
   coupled-polynomial : (cs : List ℕ) {ws ws′ : List (List ℕ)} → Small n cs → CloseAll n u ws ws′
       → Coupled u (Close n u) (polynomial n s ws cs) (polynomial n s ws′ cs)

@@ -3,11 +3,13 @@ use mathlib.Core.Path.{_≡_, refl, ap, ap₂, _∙_}
 use mathlib.Core.Bool.{Bool, true, false, cond}
 use mathlib.Core.List.{List, [], _∷_, _++_}
 use Prim.Native.Nat.{ℕ, zero, suc, _+_, _-_, _^_, _≤_, _<_}
-use lib.ListN.{length, replicate, replicate-append-replicate}
+use lib.ListN.{length, replicate}
 use Rattle.xor.specs.Xor.{_⊕_}
 use Rattle.xor.specs.Sum.{join}
-use Rattle.field.specs.Mul.{Width, mul}
+use Rattle.field.specs.Mul.{mul}
 use Rattle.field.proofs.Inverses.{field-of}
+use Rattle.decomposition.specs.Layout.{Known}
+use Rattle.decomposition.proofs.Sizes.{known-width}
 use Rattle.steps.specs.Program.{_>>=_, _>>_, note, random, loop, for, first, later, trace}
 use Rattle.steps.specs.Watch.{watched}
 use Rattle.steps.specs.Choices.{sum, tally, totalBits, equal, choices}
@@ -15,28 +17,29 @@ use Rattle.steps.specs.Shape.{drawOf, touchesOf, bitsOf, Shaped}
 use Rattle.steps.specs.Coupling.{Coupled}
 use Rattle.steps.specs.Sharing.{share, Sharing, Close}
 use Rattle.steps.specs.Split.{masks, split}
+use Rattle.steps.specs.Settled.{maskBits, choiceBits}
 use Rattle.steps.proofs.Shape.{shaped-bind, bits-append, touches-append}
 use Rattle.steps.proofs.Coupling.{coupled-bind}
-use Rattle.steps.proofs.Split.{shaped-split, coupled-split, draws-bits, draws-touches}
+use Rattle.steps.proofs.Splits.{shaped-split, coupled-split, draws-bits, draws-touches}
 use Rattle.steps.proofs.Choices.{sum-same, tally-same, tally-all}
 use Rattle.product.specs.Product.{product, start, row, pair}
-use Rattle.sbox.specs.Sbox.{byShare, square, squares, powers, sbox}
+use Rattle.sbox.specs.Sbox.{factors, classesAfter, powers, sbox}
+use Rattle.product.specs.ByShare.{byShare, square, squares}
 use Rattle.sbox.specs.Form.{formOf, basisSize, AcceptedForm}
 use Rattle.sbox.specs.Shape.{sboxShape}
 use Rattle.sbox.specs.Figures.{sboxDraws}
-use Rattle.sbox.specs.Experiment.{experiment, experimentShape, choiceBits}
+use Rattle.sbox.specs.Experiment.{experiment, experimentShape, sboxInputs}
 use Rattle.sbox.proofs.Shape.{shaped-sbox}
 use Rattle.sbox.proofs.Counts.{sbox-bits}
 use Rattle.sbox.proofs.Coupling.{coupled-sbox}
 
 -- ---- the shape
 
-pub experiment-bits : (n s : ℕ) → Width n → bitsOf (experimentShape n s) ≡ choiceBits n s
-unfolding experimentShape choiceBits
+pub experiment-bits : (n s : ℕ) → Known n → bitsOf (experimentShape n s) ≡ choiceBits (sboxInputs n s)
+unfolding experimentShape choiceBits maskBits
 experiment-bits n s w =
     bits-append (replicate (s - 1) (drawOf n)) (sboxShape n s (basisSize n))
     ∙ ap₂ (λ (l m : List ℕ). l ++ m) (draws-bits n (s - 1)) (sbox-bits n s w)
-    ∙ replicate-append-replicate (s - 1) (sboxDraws n s) n
 
 pub experiment-touches : (n s : ℕ) → touchesOf (experimentShape n s) ≡ touchesOf (sboxShape n s (basisSize n))
 unfolding experimentShape
@@ -59,7 +62,7 @@ module _ {n : ℕ} {qs ps : List (List ℕ)} (accepted : AcceptedForm n qs ps) (
   unfolding experiment
   coupled-experiment u l x y hx hy =
       coupled-bind (coupled-split n s x y u hx hy l)
-      (λ a b h. coupled-sbox (field-of n (accepted .width) .ring) s u (accepted .coefficients) h)
+      (λ a b h. coupled-sbox (field-of n (known-width n (accepted .width)) .ring) s u (accepted .coefficients) h)
 
 -- ---- counting choices
 
@@ -82,7 +85,7 @@ tally-of bits false = none bits
 -- it is x_0 · x_1 ^ 2
 pub step-nine : (qs ps : List (List ℕ)) (a tape : List ℕ)
     → watched (9 ∷ []) (trace (sbox 4 2 qs ps a) tape) ≡ mul 4 (share a 0) (mul 4 (share a 1) (share a 1)) ∷ []
-unfolding watched trace sbox powers squares square byShare product start row pair for loop note random _>>=_ _>>_
+unfolding watched trace sbox powers factors classesAfter squares square byShare product start row pair for loop note random _>>=_ _>>_
 step-nine qs ps a tape = refl
 
 -- the same by the secret x and the mask m
@@ -96,8 +99,8 @@ experiment-step-nine qs ps x tape = step-nine qs ps (x ⊕ join (first tape ∷ 
 
 -- the choices at which it shows 0, mask by mask: 256 for each mask at which it is 0
 pub step-nine-choices : (qs ps : List (List ℕ)) (x : ℕ)
-    → choices (choiceBits 4 2) (experiment 4 2 qs ps x) (9 ∷ []) (0 ∷ []) ≡ sum 16 (λ m. cond (equal (stepNine x m ∷ []) (0 ∷ [])) 256 0)
-unfolding choices choiceBits sboxDraws tally totalBits first
+    → choices (choiceBits (sboxInputs 4 2)) (experiment 4 2 qs ps x) (9 ∷ []) (0 ∷ []) ≡ sum 16 (λ m. cond (equal (stepNine x m ∷ []) (0 ∷ [])) 256 0)
+unfolding choices choiceBits maskBits sboxDraws tally totalBits first
 step-nine-choices qs ps x =
     tally-same (4 ∷ 4 ∷ 4 ∷ []) _ (λ tape. equal (stepNine x (first tape) ∷ []) (0 ∷ []))
     (λ tape f. ap (λ (l : List ℕ). equal l (0 ∷ [])) (experiment-step-nine qs ps x tape))

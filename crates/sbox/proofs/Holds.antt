@@ -9,7 +9,7 @@ use lib.ListN.{length, getD, set, take, replicate, length-set, length-replicate}
 use lib.Seq.{getD-set-same, getD-set-other, getD-at, getD-take, getD-drop}
 use Rattle.steps.specs.Sharing.{share}
 use Rattle.steps.proofs.Sharing.{share-zeros}
-use Rattle.sbox.specs.Sbox.{nth}
+use Rattle.product.specs.ByShare.{nth}
 use Rattle.sbox.specs.Table.{cell, setCell, row, put}
 
 -- ---- lists of sharings

@@ -1,4 +1,4 @@
-pub mod ByShare
+pub mod FirstShare
 pub mod Powers
 pub mod Shape
 pub mod Counts
@@ -13,7 +13,7 @@ pub mod Holds
 pub mod Lockstep
 pub mod TableProgram
 pub mod TableRuns
-pub mod TableFigures
+pub mod TableClasses
 pub mod Widths
 pub mod Calls
 pub mod Answers

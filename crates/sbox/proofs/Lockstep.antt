@@ -1,30 +1,29 @@
 -- The programs of the code's table are those of the definition: they run in lockstep, and the rows of the table are the sharings made so far.
 use mathlib.Core.Path.{_≡_, refl, sym, ap, ap₂, _∙_}
-use mathlib.Core.Bool.{Bool, true, false, cond}
-use mathlib.Core.List.{List, [], _∷_, _++_, flatten, append-nil, append-assoc}
+use mathlib.Core.List.{List, [], _∷_, _++_, append-nil, append-assoc}
 use Prim.Native.Nat.{ℕ, zero, suc, _+_, _-_, _*_, _≤_, _<_}
-use native.Mathlib.Nat.{sub-zero}
+use native.Mathlib.Nat.{sub-zero, mul-suc, mul-one, mul-le-mul-left}
 use native.Mathlib.Numerals.{add-one}
 use native.Mathlib.Omega.{arith}
-use borrow.Author.Tests.{eqb-true}
-use lib.Dec.{eqb}
 use lib.ListN.{length, getD, set, replicate, length-append, length-set, List·getD-append}
 use lib.Seq.{getD-set-same, getD-set-other, getD-append-add, getD-at}
 use Rattle.xor.specs.Xor.{_⊕_}
-use Rattle.field.specs.Polynomial.{classes, exponents}
-use Rattle.steps.specs.Program.{Run, return, mark, one, _>>=_, note, loop, for}
+use Rattle.field.specs.Polynomial.{exponents}
+use Rattle.steps.specs.Program.{Run, return, one, _>>=_, note, loop, for}
 use Rattle.steps.specs.Sharing.{share}
 use Rattle.steps.proofs.Program.{bind-bind, for-same, for-split, for-turn, for-end}
 use Rattle.steps.proofs.Lockstep.{Lockstep, lockstep-return, lockstep-step, lockstep-bind, lockstep-right, lockstep-self, lockstep-left}
 use Rattle.steps.proofs.Lockstep.{lockstep-weaken, lockstep-for, lockstep-same}
 use Rattle.steps.proofs.Sharing.{share-zeros}
-use Rattle.product.specs.Product.{start, pair, row, product}
-use Rattle.sbox.specs.Sbox.{byShare, nth, constant, square, squares, thirdClass, powers, term, polynomial, polynomials, products, total, sbox}
+use Rattle.product.specs.Product.{product}
+use Rattle.sbox.specs.Sbox.{constant, factors, classesAfter, powers, term, polynomial, polynomials, products, total, sbox}
+use Rattle.product.specs.ByShare.{byShare, nth, square, squares}
 use Rattle.sbox.specs.Table.{cell, setCell, put}
 use Rattle.sbox.specs.Table as table
-use Rattle.sbox.specs.TableSteps.{squareShare, squareRow, multiplyRows, exponentOf, factor, powerClass, thirdRows, powerRows}
+use Rattle.sbox.specs.TableSteps.{squareShare, squareRow, multiplyRows, factorsOf, powerClass, powerRows}
 use Rattle.sbox.specs.TableSteps.{termAt, polynomialShare, polynomialRow}
 use Rattle.sbox.specs.TableSteps.{productRow, addRow, totalShare, fillRows, sboxRows}
+use Rattle.sbox.proofs.Places.{product-same}
 use Rattle.sbox.proofs.Holds.{Holds, holds-none, holds-row, holds-open, holds-last, holds-set, holds-put}
 
 -- cs are the coefficients of polynomial j of a record whose polynomials have k + 1 each
@@ -35,29 +34,6 @@ pub record Reads (k : ℕ) (rec : List ℕ) (j : ℕ) (cs : List ℕ) : Type 0 w
 for-times : (i s k : ℕ) (f : ℕ → List ℕ → Run (List ℕ)) (t : List ℕ) → i + k ≡ s → for i s f t ≡ loop f i k t
 unfolding for
 for-times i s k f t e = let d : s - i ≡ k = omega arith in rw d
-
--- ---- the masked product depends on the s shares alone
-
-module _ (n s : ℕ) (a a′ b b′ : List ℕ)
-    (ea : (i : ℕ) → i < s → share a i ≡ share a′ i) (eb : (i : ℕ) → i < s → share b i ≡ share b′ i) where
-  start-same : (i : ℕ) (c : List ℕ) → i < s → start n a b i c ≡ start n a′ b′ i c
-  unfolding start
-  start-same i c h = rw (ea i h, eb i h)
-
-  pair-same : (i j : ℕ) (c : List ℕ) → i < s → j < s → pair n a b i j c ≡ pair n a′ b′ i j c
-  unfolding pair
-  pair-same i j c h k = rw (ea i h, eb i h, ea j k, eb j k)
-
-  row-same : (i : ℕ) (c : List ℕ) → i < s → row n s a b i c ≡ row n s a′ b′ i c
-  unfolding row
-  row-same i c k = for-same (i + 1) s (pair n a b i) (pair n a′ b′ i) (omega arith) (λ j c l h. pair-same i j c (omega arith) (omega arith)) c
-
-  product-same : product n s a b ≡ product n s a′ b′
-  unfolding product
-  product-same =
-      ap₂ (λ (m : Run (List ℕ)) (f : List ℕ → Run (List ℕ)). mark (m >>= f))
-      (for-same 0 s (start n a b) (start n a′ b′) (omega arith) (λ i c l k. start-same i c (omega arith)) (replicate 9 0))
-      (λ x c. for-same 0 s (row n s a b) (row n s a′ b′) (omega arith) (λ i c l k. row-same i c k) c x)
 
 module _ (n s : ℕ) (nine : s ≤ 9) where
   -- ---- one row more
@@ -114,41 +90,47 @@ module _ (n s : ℕ) (nine : s ≤ 9) where
       rw e (lockstep-right (lockstep-squares k (l ++ (a ∷ [])) b (omega arith) p) (λ t″ m q.
       lockstep-return (rw append-assoc at (q .0), ap suc (q .1)))))
 
-  -- the class of a product
-  lockstep-class : {t : List ℕ} (k : ℕ) (l : List (List ℕ)) (x y z last : ℕ) → length l ≡ z → z + k ≡ last → last < 28
-      → factor (exponentOf n z) 0 6 ≡ x → factor (exponentOf n z) 1 3 ≡ y → Holds s t l
-      → Lockstep (λ t′ m. Holds s t′ (l ++ m) × (length m ≡ suc k)) (powerClass n s z last t) (product n s (nth l x) (nth l y) >>= squares n s k)
+  -- class number k + 1
+  lockstep-class : {t : List ℕ} (l : List (List ℕ)) (k : ℕ) (f : ℕ × ℕ) → factorsOf n k ≡ f → 0 < n → length l ≡ n * (k + 1) → length l + n ≤ 28 → Holds s t l
+      → Lockstep (λ t′ m. Holds s t′ (l ++ m) × (length m ≡ suc (n - 1))) (powerClass n s k t) (product n s (nth l (f .0)) (nth l (f .1)) >>= squares n s (n - 1))
   unfolding powerClass for
-  lockstep-class k l x y z last e e′ hl ex ey h =
-      let d : last - length l ≡ k = omega arith in
-      rw (ex, ey, ← e) (lockstep-bind (lockstep-multiply l x y (omega arith) h) (λ t′ c p. rw d (lockstep-squares k l c (omega arith) p)))
+  lockstep-class l k f e some el room h =
+      let d : length l + (n - 1) - length l ≡ n - 1 = omega arith in
+      rw (e, ← el)
+      (lockstep-bind (lockstep-multiply l (f .0) (f .1) (omega arith) h) (λ t′ c p. rw d (lockstep-squares (n - 1) l c (omega arith) p)))
 
-  -- the class of x ^ 11, and all powers
-  lockstep-third : {t : List ℕ} (b : Bool) → eqb n 6 ≡ b → (xs ys : List (List ℕ)) → length xs ≡ n → length ys ≡ n → Holds s t (xs ++ ys)
-      → Lockstep (λ t′ ws. Holds s t′ ws × (length ws ≡ cond b (3 * n) (2 * n))) (thirdRows b n s t)
-      (thirdClass b n s xs ys >>= (λ zs. return (xs ++ (ys ++ zs))))
-  unfolding thirdRows thirdClass exponents classes flatten factor _>>=_
-  lockstep-third true e xs ys lx ly h =
-      let six : n ≡ 6 = eqb-true n 6 e in
-      let l : length (xs ++ ys) ≡ 12 = length-append xs ys ∙ omega arith in
-      let at-6 : nth (xs ++ ys) 6 ≡ nth ys 0 = let p : 6 ≡ length xs + 0 = omega arith in rw p (getD-append-add xs ys 0 []) in
-      let at-3 : nth (xs ++ ys) 3 ≡ nth xs 3 = List·getD-append xs ys [] 3 (omega arith) in
-      lockstep-right (rw (at-6, at-3) at (lockstep-class (n - 1) (xs ++ ys) 6 3 12 17 l (omega arith) (omega arith) (rw six refl) (rw six refl) h)) (λ t′ zs p.
-      lockstep-return (rw append-assoc at (p .0), simp length-append (omega arith)))
-  lockstep-third {t} false e xs ys lx ly h =
-      lockstep-return {a = t} {b = xs ++ (ys ++ [])} (rw append-nil h, simp (append-nil, length-append) (omega arith))
+  -- the classes whose factors are those from number k on
+  lockstep-classes : {t : List ℕ} (fs : List (ℕ × ℕ)) (k : ℕ) (ws : List (List ℕ)) → 0 < n
+      → ((i : ℕ) → i < length fs → factorsOf n (k + i) ≡ getD fs i (0, 0))
+      → length ws ≡ n * (k + 1) → n * (k + 1 + length fs) ≤ 28 → Holds s t ws
+      → Lockstep (λ t′ ws. Holds s t′ ws × (length ws ≡ n * (k + 1 + length fs))) (loop (powerClass n s) k (length fs) t) (classesAfter n s fs ws)
+  unfolding loop classesAfter
+  lockstep-classes [] k ws some same el room h = let e : k + 1 + 0 ≡ k + 1 = omega arith in lockstep-return (h, rw e el)
+  lockstep-classes (f ∷ fs) k ws some same el room h =
+      let next : n * (k + 1 + 1) ≡ n * (k + 1) + n = rw add-one (mul-suc n (k + 1)) in
+      let total : k + 1 + suc (length fs) ≡ k + 1 + 1 + length fs = omega arith in
+      let more : n * (k + 1 + 1) ≤ n * (k + 1 + 1 + length fs) = mul-le-mul-left n (omega arith) in
+      let room′ = rw total at room in
+      let here : k + 0 ≡ k = omega arith in
+      let first : factorsOf n k ≡ f = rw here at (same 0 (omega arith)) in
+      rw (total, ← bind-bind (product n s (nth ws (f .0)) (nth ws (f .1))) (squares n s (n - 1)) (λ ys. classesAfter n s fs (ws ++ ys)))
+      (lockstep-bind (lockstep-class ws k f first some el (omega arith) h) (λ t₁ ys p.
+      lockstep-classes fs (k + 1) (ws ++ ys) some
+      (λ i l. let shift : k + 1 + i ≡ k + suc i = omega arith in rw shift (same (suc i) (omega arith)))
+      (length-append ws ys ∙ omega (arith, p .1)) room′ (p .0)))
 
-  lockstep-powers : {t : List ℕ} (x : List ℕ) → 1 < n → 2 * n ≤ 28 → exponentOf n n ≡ 3 → Holds s t (x ∷ [])
-      → Lockstep (λ t′ ws. Holds s t′ ws × (length ws ≡ cond (eqb n 6) (3 * n) (2 * n))) (powerRows n s t) (powers n s x)
-  unfolding powerRows powers factor for
-  lockstep-powers {t} x wide few begins h =
+  lockstep-powers : {t : List ℕ} (x : List ℕ) → 0 < n → n * (1 + length (factors n)) ≤ 28 → Holds s t (x ∷ [])
+      → Lockstep (λ t′ ws. Holds s t′ ws × (length ws ≡ n * (1 + length (factors n)))) (powerRows n s t) (powers n s x)
+  unfolding powerRows powers for
+  lockstep-powers {t} x some few h =
+      let least : n * 1 ≤ n * (1 + length (factors n)) = mul-le-mul-left n (omega arith) in
+      let small : n - 1 < 28 = omega (arith, mul-one n) in
       let first : Lockstep (λ t′ m. Holds s t′ m × (length m ≡ suc (n - 1))) (for 0 (n - 1) (squareRow n s) t) (squares n s (n - 1) x) =
       rw sub-zero (lockstep-squares (n - 1) [] x (omega arith) h) in
       lockstep-bind first (λ t₁ xs p.
-      let third : List (List ℕ) → Run (List (List ℕ)) = λ ys. thirdClass (eqb n 6) n s xs ys >>= (λ zs. return (xs ++ (ys ++ zs))) in
-      rw (← bind-bind (product n s (nth xs 0) (nth xs 1)) (squares n s (n - 1)) third)
-      (lockstep-bind (lockstep-class (n - 1) xs 0 1 n (2 * n - 1) (omega arith) (omega arith) (omega arith) (rw begins refl) (rw begins refl) (p .0)) (λ t₂ ys q.
-      lockstep-third (eqb n 6) refl xs ys (omega arith) (omega arith) (q .0))))
+      let e : 0 + 1 + length (factors n) ≡ 1 + length (factors n) = omega arith in
+      rw (sub-zero (length (factors n)), ← e)
+      (lockstep-classes (factors n) 0 xs some (λ i l. let same : 0 + i ≡ i = omega arith in rw same refl) (omega (arith, p .1, mul-one n)) (rw e few) (p .0)))
 
   -- ---- the polynomials
 
@@ -297,11 +279,11 @@ module _ (n s : ℕ) (nine : s ≤ 9) where
           rw eq (lockstep-sums t₂ ws bs cs ew (q .1 ∙ eq) (r .1 ∙ ep) (r .0))))))
 
       -- the program of the code is that of the definition
-      pub rows-same : (x y : List ℕ) → 1 < n → 2 * n ≤ 28 → exponentOf n n ≡ 3 → cond (eqb n 6) (3 * n) (2 * n) ≡ k → ((i : ℕ) → i < s → share x i ≡ share y i)
+      pub rows-same : (x y : List ℕ) → 0 < n → n * (1 + length (factors n)) ≤ 28 → n * (1 + length (factors n)) ≡ k → ((i : ℕ) → i < s → share x i ≡ share y i)
           → sboxRows n k h s rec x ≡ sbox n s qs ps y
       unfolding sboxRows fillRows sbox
-      rows-same x y wide narrow begins made same =
+      rows-same x y some narrow made same =
           let t₀ = put s (replicate 252 0) 0 x in
           let first : Holds s t₀ (y ∷ []) = holds-last [] x y same (holds-put [] x nine (omega arith) holds-none) in
           lockstep-same
-          (rw bind-bind (lockstep-bind (lockstep-powers y wide narrow begins first) (λ t₁ ws p. rw bind-bind (lockstep-forms t₁ ws (p .1 ∙ made) (p .0)))))
+          (rw bind-bind (lockstep-bind (lockstep-powers y some narrow first) (λ t₁ ws p. rw bind-bind (lockstep-forms t₁ ws (p .1 ∙ made) (p .0)))))

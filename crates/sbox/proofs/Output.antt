@@ -8,47 +8,50 @@ use lib.ListN.{length, getD}
 use Rattle.xor.specs.Sum.{join}
 use Rattle.xor.proofs.Sum.{join-small}
 use Rattle.refusal.specs.Outcome.{done}
-use Rattle.refusal.proofs.Outcome.{then-passed}
-use Rattle.steps.specs.Program.{result}
 use Rattle.steps.specs.Sharing.{share}
 use Rattle.steps.specs.Tape.{elements}
 use Rattle.steps.specs.Operations.{joinShares}
+use Rattle.steps.specs.Call.{callResult}
 use Rattle.steps.proofs.Fill.{length-tabulate}
 use Rattle.steps.proofs.Sharing.{without-past}
 use Rattle.steps.proofs.Operations.{join-elements}
+use Rattle.steps.proofs.Call.{call-passed}
 use Rattle.decomposition.specs.Layout.{layout}
 use Rattle.decomposition.specs.Record.{widthOf}
 use Rattle.decomposition.specs.Check.{recordForm, checkOutcome}
 use Rattle.decomposition.proofs.Sizes.{layout-width}
 use Rattle.decomposition.proofs.Theorems.{check-computes}
-use Rattle.sbox.specs.Operations.{callProgram, callTests, sboxOutcome, sboxOutput}
+use Rattle.sbox.specs.Operations.{callProgram, sboxCall, callTests, sboxOutcome, sboxOutput}
 use Rattle.sbox.proofs.Record.{accepted-record, record-form}
 use Rattle.sbox.proofs.Runs.{result-sharing}
-use Rattle.sbox.proofs.Answers.{sharing-of, elements-small, passed-call}
+use Rattle.sbox.proofs.Calls.{sharing-of, passed-call}
 
 -- ---- what S-box writes
+
+-- where S-box answers done its tests are passed
+passed-tests : (r : List ℕ) (s : ℕ) (shares random : List ℕ) (out : ℕ) {v : List ℕ} → sboxOutcome r s shares random out ≡ done v
+    → (w : List ℕ) × (callTests r s shares random (eqb out s) ≡ done w)
+unfolding sboxOutcome sboxCall
+passed-tests r s shares random out e = call-passed (sboxCall r s shares random) (eqb out s) e
 
 -- FROM THE ANSWER. If S-box answers done, what it writes joins to the record's form at what the shares join to.
 pub output-joins : (r : List ℕ) (s : ℕ) (shares random : List ℕ) (out : ℕ) {v : List ℕ} → sboxOutcome r s shares random out ≡ done v
     → join (sboxOutput r s shares random) ≡ recordForm (layout (widthOf r)) r (join shares)
-unfolding sboxOutcome sboxOutput callProgram
+unfolding sboxOutput sboxCall callResult callProgram
 output-joins r s shares random out e =
     let n = widthOf r in
-    let tests = then-passed (callTests r s shares random (eqb out s)) _ e .1 in
-    let small = elements-small r s shares random (eqb out s) tests in
-    let call = passed-call r s shares random (eqb out s) tests in
+    let call = passed-call r s shares random (eqb out s) (passed-tests r s shares random out e .1) .0 in
     let accepted = accepted-record n r (call .accepted) in
-    let shared = sharing-of n s shares (call .shares-length) (small .0) in
-    let tape = elements n random in
-    let h = result-sharing accepted s (join shares) shares tape (call .some) (call .nine) shared (small .1) in
-    without-past s (result (callProgram r s shares) tape) (h .past)
+    let shared = sharing-of n s shares (call .shares-length) (call .shares-small) in
+    let h = result-sharing accepted s (join shares) shares (elements n random) (call .some) (call .nine) shared (call .random-small) in
+    without-past s (callResult (sboxCall r s shares random)) (h .past)
     ∙ h .joins
-    ∙ record-form n (accepted .width) r (join shares)
+    ∙ record-form n r (join shares)
 
 -- it writes s elements
 pub output-length : (r : List ℕ) (s : ℕ) (shares random : List ℕ) → length (sboxOutput r s shares random) ≡ s
 unfolding sboxOutput
-output-length r s shares random = length-tabulate s (share (result (callProgram r s shares) (elements (widthOf r) random)))
+output-length r s shares random = length-tabulate s (share (callResult (sboxCall r s shares random)))
 
 -- ---- what Join writes from it
 
@@ -62,9 +65,8 @@ module _ (r : List ℕ) (s : ℕ) (shares random : List ℕ) (out : ℕ) {v : Li
   -- and the table's entry there, for a table with which Check accepts the record.
   pub join-table : (table : List ℕ) → checkOutcome r table ≡ done []
       → joinShares 1 s (sboxOutput r s shares random) ≡ getD table (join shares) 0 ∷ []
-  unfolding sboxOutcome
   join-table table checked =
       let n = widthOf r in
-      let tests = then-passed (callTests r s shares random (eqb out s)) _ e .1 in
-      let small = join-small n shares (elements-small r s shares random (eqb out s) tests .0) in
+      let call = passed-call r s shares random (eqb out s) (passed-tests r s shares random out e .1) .0 in
+      let small = join-small n shares (call .shares-small) in
       join-form ∙ ap (λ (y : ℕ). y ∷ []) (check-computes r table checked .equal (join shares) (rw (layout-width n) small))

@@ -11,15 +11,14 @@ use lib.Seq.{drop-drop, take-take}
 use Rattle.xor.specs.Xor.{_⊕_}
 use Rattle.xor.specs.Sum.{Small}
 use Rattle.xor.proofs.Sum.{small-take, small-drop, sum-of-same}
-use Rattle.field.specs.Mul.{Width, mul}
+use Rattle.field.specs.Mul.{mul}
 use Rattle.field.specs.Polynomial.{exponents, value}
 use Rattle.steps.proofs.Fill.{length-tabulate, getD-tabulate}
 use Rattle.decomposition.specs.Layout.{termsOf, layout, sized}
 use Rattle.decomposition.specs.Form.{valueOf, form}
 use Rattle.decomposition.specs.Record.{Accepted}
 use Rattle.decomposition.specs.Check.{recordForm}
-use Rattle.decomposition.proofs.Sizes.{known-width}
-use Rattle.sbox.specs.Sbox.{nth}
+use Rattle.product.specs.ByShare.{nth}
 use Rattle.sbox.specs.Form.{formOf, basisSize, AcceptedForm}
 use Rattle.sbox.specs.Polynomials.{polynomialsOf, basisIn, solutionIn}
 
@@ -58,7 +57,7 @@ accepted-record n r a =
     let counted : length (polynomialsOf e k (drop 6 r)) ≡ k = length-polynomials e k (drop 6 r) in
     let further : length (polynomialsOf e (suc k) (drop (6 + k * e) r)) ≡ suc k = length-polynomials e (suc k) (drop (6 + k * e) r) in
     record {
-      width = known-width n (a .width);
+      width = a .width;
       size = counted;
       coefficients = record {
         one-more = further ∙ sym (ap suc counted);
@@ -79,9 +78,9 @@ take-within m (suc i) (suc b) (x ∷ l) h = take-within m i b l (omega arith)
 room : (e : ℕ) {i k : ℕ} → i < k → i * e + e ≤ k * e
 room e {i} {k} h = rw (suc-mul i e) at (mul-le-mul h (le-refl e))
 
-pub record-form : (n : ℕ) → Width n → (r : List ℕ) (x : ℕ) → formOf n (basisIn n r) (solutionIn n r) x ≡ recordForm (layout n) r x
+pub record-form : (n : ℕ) (r : List ℕ) (x : ℕ) → formOf n (basisIn n r) (solutionIn n r) x ≡ recordForm (layout n) r x
 unfolding formOf basisIn solutionIn form valueOf layout sized
-record-form n w r x =
+record-form n r x =
     let e = length (exponents n) in
     let k = basisSize n in
     let after = drop (6 + k * e) r in

@@ -4,18 +4,20 @@ use mathlib.Core.List.{List}
 use Prim.Native.Nat.{ℕ, _≤_, _<_}
 use lib.ListN.{length, replicate}
 use Rattle.xor.specs.Sum.{Small}
-use Rattle.steps.specs.Program.{result, trace, draws, products}
+use Rattle.steps.specs.Program.{result, draws}
 use Rattle.steps.specs.Choices.{Fits}
 use Rattle.steps.specs.Shape.{bitsOf, Shaped}
 use Rattle.steps.specs.Sharing.{Sharing}
 use Rattle.steps.proofs.Choices.{fits-small}
-use Rattle.steps.proofs.Shape.{shaped-result, shaped-steps, shaped-draws, shaped-products}
+use Rattle.steps.specs.Call.{Takes}
+use Rattle.steps.proofs.Shape.{shaped-result, shaped-draws}
+use Rattle.steps.proofs.Call.{takes-shape}
 use Rattle.sbox.specs.Sbox.{sbox}
 use Rattle.sbox.specs.Form.{formOf, basisSize, AcceptedForm}
 use Rattle.sbox.specs.Shape.{sboxShape}
 use Rattle.sbox.specs.Figures.{sboxProducts, sboxDraws, sboxSteps}
 use Rattle.sbox.proofs.Shape.{shaped-sbox}
-use Rattle.sbox.proofs.Counts.{sbox-steps, sbox-products, sbox-bits}
+use Rattle.sbox.proofs.Counts.{sbox-steps, sbox-draws, sbox-products, sbox-bits}
 
 module _ {n : ℕ} {qs ps : List (List ℕ)} (accepted : AcceptedForm n qs ps) (s x : ℕ) (a tape : List ℕ) (some : 0 < s) (nine : s ≤ 9)
     (sharing : Sharing n s x a) (elements : Small n tape) where
@@ -32,12 +34,12 @@ module _ {n : ℕ} {qs ps : List (List ℕ)} (accepted : AcceptedForm n qs ps) (
   pub result-places : length (result (sbox n s qs ps a) tape) ≡ 9
   result-places = shaped-result shaped tape fits .0
 
-  -- so many steps, draws and masked products are taken
-  pub trace-length : length (trace (sbox n s qs ps a) tape) ≡ sboxSteps n s
-  trace-length = shaped-steps shaped tape fits ∙ sbox-steps n s (accepted .width)
+  -- so many masked products, draws and steps are taken
+  pub takes : Takes (sbox n s qs ps a) tape (sboxProducts n) (sboxDraws n s) (sboxSteps n s)
+  takes =
+      let w = accepted .width in
+      takes-shape shaped tape fits (sbox-products n s w) (sbox-draws n s w) (sbox-steps n s w)
 
+  -- the draws are of n bits each
   pub draws-are : draws (sbox n s qs ps a) tape ≡ replicate (sboxDraws n s) n
   draws-are = shaped-draws shaped tape fits ∙ sbox-bits n s (accepted .width)
-
-  pub products-length : length (products 0 (sbox n s qs ps a) tape) ≡ sboxProducts n
-  products-length = shaped-products shaped 0 tape fits ∙ sbox-products n s (accepted .width)

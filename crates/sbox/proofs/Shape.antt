@@ -10,13 +10,15 @@ use Rattle.xor.specs.Xor.{_⊕_}
 use Rattle.xor.specs.Sum.{join, sumOf, Small}
 use Rattle.xor.proofs.Xor.{⊕-assoc, ⊕-zero, zero-⊕}
 use Rattle.xor.proofs.Sum.{additive-below, join-nil, join-cons, join-append, join-small}
-use Rattle.field.specs.Mul.{Width, mul}
+use Rattle.field.specs.Mul.{mul}
 use Rattle.field.specs.Power.{pow}
 use Rattle.field.specs.Polynomial.{exponents, combination, value}
 use Rattle.field.proofs.Bilinear.{mul-⊕, mul-zero-left}
 use Rattle.field.proofs.Ring.{mul-small, mul-one}
 use Rattle.field.proofs.Power.{pow-zero}
 use Rattle.field.proofs.Inverses.{field-of}
+use Rattle.decomposition.specs.Layout.{Known}
+use Rattle.decomposition.proofs.Sizes.{known-width}
 use Rattle.steps.specs.Program.{one, _>>=_, note}
 use Rattle.steps.specs.Shape.{stepOf, Shaped, shaped-return, shaped-step}
 use Rattle.steps.specs.Sharing.{share, Sharing}
@@ -24,11 +26,14 @@ use Rattle.steps.proofs.Shape.{shaped-bind, shaped-map, shaped-weaken, shaped-n
 use Rattle.steps.proofs.Sharing.{forSum, for-sum-end, for-sum-same, join-for}
 use Rattle.product.specs.Product.{productShape}
 use Rattle.product.proofs.Shape.{shaped-product}
-use Rattle.sbox.specs.Sbox.{nth, constant, term, polynomial, polynomials, products, total, sbox}
+use Rattle.sbox.specs.Sbox.{constant, term, polynomial, polynomials, products, total, sbox}
+use Rattle.product.specs.ByShare.{nth}
 use Rattle.sbox.specs.Form.{formOf, SmallAll, Coefficients}
-use Rattle.sbox.specs.Shape.{times, termShape, polynomialShape, totalShape, sboxShape}
-use Rattle.sbox.proofs.ByShare.{for-sum-none, for-sum-head, adds-share, adds-map, adds-add, adds-sum, adds-constant}
-use Rattle.sbox.proofs.ByShare.{shaped-add-up, shaped-by-share}
+use Rattle.sbox.specs.Shape.{termShape, polynomialShape, totalShape, sboxShape}
+use Rattle.product.specs.ByShare.{times}
+use Rattle.sbox.proofs.FirstShare.{adds-constant}
+use Rattle.product.proofs.ByShare.{for-sum-none, for-sum-head, adds-share, adds-map, adds-add, adds-sum}
+use Rattle.product.proofs.ByShare.{shaped-add-up, shaped-by-share}
 use Rattle.sbox.proofs.Powers.{Each, each-nil, each-cons, each-append, each-nth}
 use Rattle.sbox.proofs.Powers.{laterExponents, exponents-later, length-later, IsPower, shaped-powers}
 
@@ -49,14 +54,14 @@ combination-sum n x (c ∷ cs) (e ∷ es) =
     ∙ sym (for-sum-head (length es) (λ r. mul n (getD (c ∷ cs) r 0) (pow n x (getD (e ∷ es) r 0))))
 
 -- a polynomial's value: the constant, and a term for each later exponent
-value-sum : {n : ℕ} (w : Width n) (x : ℕ) (cs : List ℕ)
+value-sum : (n : ℕ) (w : Known n) (x : ℕ) (cs : List ℕ)
     → value n cs x ≡ getD cs 0 0 ⊕ forSum 0 (length (exponents n) - 1) (λ r. mul n (getD cs (r + 1) 0) (pow n x (getD (laterExponents n) r 0)))
 unfolding value
-value-sum {n} w x cs =
+value-sum n w x cs =
     ap (λ (es : List ℕ). combination n cs (map (pow n x) es)) (exponents-later n w)
     ∙ combination-sum n x cs (0 ∷ laterExponents n)
     ∙ for-sum-head (length (laterExponents n)) (λ r. mul n (getD cs r 0) (pow n x (getD (0 ∷ laterExponents n) r 0)))
-    ∙ ap₂ _⊕_ (ap (mul n (getD cs 0 0)) (pow-zero n x) ∙ mul-one (field-of n w .ring) (getD cs 0 0))
+    ∙ ap₂ _⊕_ (ap (mul n (getD cs 0 0)) (pow-zero n x) ∙ mul-one (field-of n (known-width n w) .ring) (getD cs 0 0))
     (for-sum-same 0 (length (laterExponents n)) (λ r. mul n (getD cs (r + 1) 0) (pow n x (getD (0 ∷ laterExponents n) (r + 1) 0)))
     (λ r. mul n (getD cs (r + 1) 0) (pow n x (getD (laterExponents n) r 0))) (λ r l k. rw add-one)
     ∙ ap (λ (k : ℕ). forSum 0 k (λ r. mul n (getD cs (r + 1) 0) (pow n x (getD (laterExponents n) r 0)))) (sym (length-later n w)))
@@ -94,15 +99,15 @@ join-form f k v =
 
 -- ---- the shape
 
-module _ {n : ℕ} (w : Width n) (s x : ℕ) (some : 0 < s) (nine : s ≤ 9) where
+module _ {n : ℕ} (w : Known n) (s x : ℕ) (some : 0 < s) (nine : s ≤ 9) where
   shaped-polynomial : {ws : List (List ℕ)} (cs : List ℕ) → Small n cs → Each (IsPower n s x) (laterExponents n) ws
       → Shaped (Sharing n s (value n cs x)) (polynomialShape n s) (polynomial n s ws cs)
   unfolding polynomial polynomialShape term termShape note _>>=_
   shaped-polynomial {ws} cs hc hw =
-      let ring = field-of n w .ring in
+      let ring = field-of n (known-width n w) .ring in
       let l = length-later n w in
       let e = length (exponents n) - 1 in
-      subst (λ (v : ℕ). Shaped (Sharing n s v) (polynomialShape n s) (polynomial n s ws cs)) (sym (value-sum w x cs))
+      subst (λ (v : ℕ). Shaped (Sharing n s v) (polynomialShape n s) (polynomial n s ws cs)) (sym (value-sum n w x cs))
       (shaped-weaken
       (shaped-by-share nine
       (adds-add (adds-constant n s (getD cs 0 0) some (hc 0))
@@ -132,7 +137,7 @@ module _ {n : ℕ} (w : Width n) (s x : ℕ) (some : 0 < s) (nine : s ≤ 9) whe
   unfolding products times upFrom
   shaped-products ps qs v u hp hq j zero = shaped-return each-nil
   shaped-products ps qs v u hp hq j (suc k) =
-      shaped-bind (shaped-product (field-of n w .ring) s (v j) (u j) (nth ps j) (nth qs j) nine (hp j) (hq j)) λ a ha.
+      shaped-bind (shaped-product (field-of n (known-width n w) .ring) s (v j) (u j) (nth ps j) (nth qs j) nine (hp j) (hq j)) λ a ha.
       shaped-map (λ l. a ∷ l) (shaped-products ps qs v u hp hq (suc j) k) (λ l hl. each-cons (ha .1) hl)
 
   shaped-total : (k : ℕ) {vs : List ℕ} {ts : List (List ℕ)} → length vs ≡ suc k → Each (Sharing n s) vs ts
@@ -149,7 +154,7 @@ module _ {n : ℕ} (w : Width n) (s x : ℕ) (some : 0 < s) (nine : s ≤ 9) whe
       (λ r u. shaped-note (one i) (u ⊕ share (nth ts (r + 1)) i) refl)))
 
 -- The masked S-box of a sharing of x is a sharing of the form at x, in nine places.
-pub shaped-sbox : {n : ℕ} → Width n → (s x : ℕ) (qs ps : List (List ℕ)) (a : List ℕ) → 0 < s → s ≤ 9 → Coefficients n qs ps → Sharing n s x a
+pub shaped-sbox : {n : ℕ} → Known n → (s x : ℕ) (qs ps : List (List ℕ)) (a : List ℕ) → 0 < s → s ≤ 9 → Coefficients n qs ps → Sharing n s x a
     → Shaped (λ c. (length c ≡ 9) × Sharing n s (formOf n qs ps x) c) (sboxShape n s (length qs)) (sbox n s qs ps a)
 unfolding sbox sboxShape formOf
 shaped-sbox {n} w s x qs ps a some nine hc ha =

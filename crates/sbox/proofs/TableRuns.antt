@@ -1,7 +1,7 @@
 -- What the parts of the code's program come to on the machine, and the turn of the loop that puts a row.
 use mathlib.Core.Path.{_≡_, refl}
 use mathlib.Core.List.{List, [], _∷_}
-use Prim.Native.Nat.{ℕ, zero, suc, _+_, _-_, _*_, _≤_, _<_}
+use Prim.Native.Nat.{ℕ, zero, suc, _+_, _-_, _*_, _^_, _≤_, _<_}
 use native.Mathlib.Nat.{mul-le-mul-right, suc-mul}
 use native.Mathlib.Numerals.{add-one}
 use native.Mathlib.Omega.{arith}
@@ -11,14 +11,16 @@ use lib.Seq.{take-all}
 use Rattle.xor.specs.Xor.{_⊕_}
 use Rattle.field.specs.Mul.{mul}
 use Rattle.steps.specs.declared.counts.Counts.{Counts}
-use Rattle.steps.specs.Program.{return, _>>=_, note}
+use Rattle.steps.specs.Program.{return, _>>=_, note, for}
 use Rattle.steps.specs.Recorder.{seen, observed}
-use Rattle.steps.specs.Machine.{exec, ended}
+use Rattle.steps.specs.Machine.{exec, ended, ReadySteps}
 use Rattle.steps.proofs.Machine.{then-runs, return-runs}
+use Rattle.steps.proofs.StepsAlone.{StepsAlone, alone-return, alone-bind, alone-note, alone-for}
 use Rattle.product.specs.Product.{product}
 use Rattle.sbox.specs.Sbox.{constant}
+use Rattle.product.specs.ByShare.{byShare}
 use Rattle.sbox.specs.Table.{cell, setCell, row, put}
-use Rattle.sbox.specs.TableSteps.{squareShare, multiplyRows, termAt, addRow}
+use Rattle.sbox.specs.TableSteps.{squareShare, squareRow, multiplyRows, termAt, polynomialShare, polynomialRow, addRow, totalShare}
 
 module _ (tape watch : List ℕ) where
   -- the square of one share
@@ -60,6 +62,44 @@ module _ (tape watch : List ℕ) where
   unfolding multiplyRows
   multiply-runs w s x y z t n vs ea eb e et =
       then-runs tape watch (product w s (row t x) (row t y)) (λ c. return (put s t z c)) n vs (rw (ea, eb) at e) (return-runs tape watch _ _ et)
+
+-- ---- what the leaves ask of the step number
+
+module _ {watch vs : List ℕ} where
+  pub square-room : (w r i : ℕ) (t : List ℕ) (k : ℕ) → ReadySteps watch (squareShare w r i t) k vs → (length watch ≡ length vs) × (k + 1 < 2 ^ 32)
+  unfolding exec squareShare _>>=_ note
+  square-room w r i t k y = (y .places, y .steps-fit)
+
+  pub term-room : (w : ℕ) (rec : List ℕ) (p i : ℕ) (t : List ℕ) (r u k : ℕ)
+      → ReadySteps watch (termAt w rec p i t r u) k vs → (length watch ≡ length vs) × (k + 2 < 2 ^ 32)
+  unfolding exec termAt _>>=_ note
+  term-room w rec p i t r u k y = (y .places, omega (arith, y .steps-fit))
+
+  pub add-room : (i : ℕ) (t : List ℕ) (r u k : ℕ) → ReadySteps watch (addRow i t r u) k vs → (length watch ≡ length vs) × (k + 1 < 2 ^ 32)
+  unfolding exec addRow note
+  add-room i t r u k y = (y .places, y .steps-fit)
+
+-- ---- parts that take steps alone
+
+squares-alone : (n s r : ℕ) (t : List ℕ) → StepsAlone (squareRow n s r t)
+unfolding squareRow squareShare
+squares-alone n s r t = alone-for 0 s (λ i u. alone-bind (alone-note _ _) (λ v. alone-return)) t
+
+pub square-rows-alone : (n s a b : ℕ) (t : List ℕ) → StepsAlone (for a b (squareRow n s) t)
+square-rows-alone n s a b t = alone-for a b (squares-alone n s) t
+
+pub polynomials-alone : (n k s : ℕ) (rec : List ℕ) (count : ℕ) (t : List ℕ) → StepsAlone (for 0 count (polynomialRow n k s rec) t)
+unfolding polynomialRow polynomialShare termAt
+polynomials-alone n k s rec count t =
+    alone-for 0 count
+    (λ j t. alone-for 0 s (λ i t. alone-bind (alone-for 0 k (λ r u. alone-bind (alone-note _ _) (λ v. alone-note _ _)) _) (λ u. alone-return)) t) t
+
+pub totals-alone : (s h z : ℕ) (t : List ℕ) → StepsAlone (byShare s (totalShare h z t))
+unfolding byShare totalShare addRow
+totals-alone s h z t =
+    alone-for 0 s (λ i c. alone-bind (alone-bind (alone-for 0 (h - 1) (λ j u. alone-note _ _) _) (λ u. alone-note _ _)) (λ v. alone-return)) _
+
+-- ---- rows
 
 -- a row as a part of the table, lent up to its end
 pub row-part : (t : List ℕ) (r : ℕ) → take (length t - 9 * r) (drop (9 * r) t) ≡ row t r

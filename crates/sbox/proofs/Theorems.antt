@@ -8,6 +8,7 @@ use Rattle.refusal.specs.Outcome.{done}
 use Rattle.steps.specs.Program.{result}
 use Rattle.steps.specs.Watch.{different, Misses}
 use Rattle.steps.specs.Choices.{choices}
+use Rattle.steps.specs.Settled.{choiceBits}
 use Rattle.steps.specs.Shape.{touchesOf}
 use Rattle.steps.specs.Sharing.{Sharing}
 use Rattle.decomposition.specs.Layout.{layout}
@@ -19,7 +20,7 @@ use Rattle.decomposition.proofs.Theorems.{check-computes}
 use Rattle.sbox.specs.Sbox.{sbox}
 use Rattle.sbox.specs.Form.{basisSize, AcceptedForm}
 use Rattle.sbox.specs.Shape.{sboxShape}
-use Rattle.sbox.specs.Experiment.{experiment, choiceBits}
+use Rattle.sbox.specs.Experiment.{experiment, sboxInputs}
 use Rattle.sbox.specs.Polynomials.{basisIn, solutionIn}
 use Rattle.sbox.proofs.Runs.{result-sharing}
 use Rattle.sbox.proofs.Secrecy.{sbox-few-steps, sbox-untouched-share}
@@ -33,7 +34,7 @@ module _ (n : ℕ) (r : List ℕ) (accepted : readOutcome r ≡ done (n ∷ []))
   pub joined-form : 0 < s → s ≤ 9 → (x : ℕ) (a random : List ℕ) → Sharing n s x a → Small n random
       → join (result (sbox n s (basisIn n r) (solutionIn n r) a) random) ≡ recordForm (layout n) r x
   joined-form some nine x a random h t =
-      result-sharing coefficients s x a random some nine h t .joins ∙ record-form n (coefficients .width) r x
+      result-sharing coefficients s x a random some nine h t .joins ∙ record-form n r x
 
   -- And to the table's entry at x, for a table with which Check accepts the record.
   pub joined-table : 0 < s → s ≤ 9 → (x : ℕ) (a random table : List ℕ) → x < 2 ^ n → Sharing n s x a → Small n random
@@ -47,13 +48,13 @@ module _ (n : ℕ) (r : List ℕ) (accepted : readOutcome r ≡ done (n ∷ []))
   -- choices show these values at the steps of the list.
   pub few-steps : s ≤ 9 → (t : ℕ) → 2 * t + 1 ≤ s → (list : List ℕ) → different list ≤ t
       → (shown : List ℕ) (x y : ℕ) → x < 2 ^ n → y < 2 ^ n
-      → choices (choiceBits n s) (experiment n s (basisIn n r) (solutionIn n r) x) list shown
-      ≡ choices (choiceBits n s) (experiment n s (basisIn n r) (solutionIn n r) y) list shown
+      → choices (choiceBits (sboxInputs n s)) (experiment n s (basisIn n r) (solutionIn n r) x) list shown
+      ≡ choices (choiceBits (sboxInputs n s)) (experiment n s (basisIn n r) (solutionIn n r) y) list shown
   few-steps = sbox-few-steps coefficients s
 
   -- AN UNTOUCHED SHARE. The same holds of a list of any number of steps, if there is a share u that none of them touches.
   pub untouched-share : s ≤ 9 → (u : ℕ) → u < s → (list : List ℕ) → Misses u (touchesOf (sboxShape n s (basisSize n))) list
       → (shown : List ℕ) (x y : ℕ) → x < 2 ^ n → y < 2 ^ n
-      → choices (choiceBits n s) (experiment n s (basisIn n r) (solutionIn n r) x) list shown
-      ≡ choices (choiceBits n s) (experiment n s (basisIn n r) (solutionIn n r) y) list shown
+      → choices (choiceBits (sboxInputs n s)) (experiment n s (basisIn n r) (solutionIn n r) x) list shown
+      ≡ choices (choiceBits (sboxInputs n s)) (experiment n s (basisIn n r) (solutionIn n r) y) list shown
   untouched-share = sbox-untouched-share coefficients s

@@ -7,17 +7,19 @@ use lib.ListN.{length}
 use Rattle.steps.specs.Program.{trace}
 use Rattle.steps.specs.Watch.{watched}
 use Rattle.steps.specs.Tape.{elements}
+use Rattle.steps.specs.Split.{settled}
 use Rattle.sbox.specs.Polynomials.{basisIn, solutionIn}
-use Rattle.sbox.specs.Experiment.{experiment, settled}
+use Rattle.sbox.specs.Experiment.{experiment}
 use Rattle.decomposition.specs.Record.{widthOf}
-use Rattle.sbox.specs.Operations.{callProgram, watchOutput}
+use Rattle.sbox.specs.Operations.{callProgram, sboxCall, watchOutput}
+use Rattle.steps.specs.Call as call
 use Rattle.sbox.proofs.Secrecy.{experiment-steps}
 
 pub watch-shows : (r : List ℕ) (s x : ℕ) (masks random list : List ℕ) → length masks ≡ s - 1
     → let n = widthOf r in
     watchOutput r s (settled x masks) random list
     ≡ watched list (trace (experiment n s (basisIn n r) (solutionIn n r) x) (masks ++ elements n random))
-unfolding watchOutput callProgram
+unfolding watchOutput sboxCall call.watchOutput callProgram
 watch-shows r s x masks random list e =
     let n = widthOf r in
     ap (watched list) (sym (experiment-steps n s (basisIn n r) (solutionIn n r) x masks (elements n random) e))

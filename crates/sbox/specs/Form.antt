@@ -5,10 +5,10 @@ use Prim.Native.Nat.{ℕ, suc, _-_}
 use lib.ListN.{length}
 use Rattle.xor.specs.Xor.{_⊕_}
 use Rattle.xor.specs.Sum.{sumOf, Small}
-use Rattle.field.specs.Mul.{Width, mul}
+use Rattle.field.specs.Mul.{mul}
 use Rattle.field.specs.Polynomial.{value}
-use Rattle.decomposition.specs.Layout.{termsOf}
-use Rattle.sbox.specs.Sbox.{nth}
+use Rattle.decomposition.specs.Layout.{termsOf, Known}
+use Rattle.product.specs.ByShare.{nth}
 
 -- the form at x: qs has the coefficients of the basis q1 to q(t-1), ps those of p1 to pt
 unfoldable pub formOf : ℕ → List (List ℕ) → List (List ℕ) → ℕ → ℕ
@@ -28,8 +28,8 @@ pub record Coefficients (n : ℕ) (qs ps : List (List ℕ)) : Type 0 where
 unfoldable pub basisSize : ℕ → ℕ
 basisSize n = termsOf n - 1
 
--- qs and ps are what an accepted record gives: the coefficients of a form of t terms, at a width of the library
+-- qs and ps are what an accepted record gives: the coefficients of a form of t terms, at a width that has decompositions
 pub record AcceptedForm (n : ℕ) (qs ps : List (List ℕ)) : Type 0 where
-  pub width : Width n
+  pub width : Known n
   pub size : length qs ≡ basisSize n
   pub coefficients : Coefficients n qs ps

@@ -6,7 +6,6 @@ pub mod Experiment
 pub mod Polynomials
 pub mod Table
 pub mod TableSteps
-pub mod TableCounts
 pub mod Operations
 pub mod Alike
 pub mod Chain

@@ -1,16 +1,17 @@
 -- The operations S-box and Watch S-box. A sharing lies share 0 first.
 use mathlib.Core.Path.{_≡_}
-use mathlib.Core.Bool.{Bool}
+use mathlib.Core.Bool.{Bool, _&&_}
 use mathlib.Core.List.{List, [], _∷_, _++_}
 use Prim.Native.Nat.{ℕ, _^_, _≤_, _<_}
 use lib.Dec.{eqb}
 use lib.ListN.{length}
+use Rattle.xor.specs.Sum.{Small}
 use Rattle.refusal.specs.Outcome.{Outcome, done, refused, test, andThen}
 use Rattle.refusal.specs.Range.{oneTo}
 use Rattle.refusal.specs.Large.{testBelow}
-use Rattle.refusal.specs.Watch.{listFits, testSteps}
-use Rattle.steps.specs.Program.{Run, result, trace, draws, products}
-use Rattle.steps.specs.Watch.{watched}
+use Rattle.steps.specs.Program.{Run}
+use Rattle.steps.specs.Call.{Call, callOutcome, callResult}
+use Rattle.steps.specs.Call as call
 use Rattle.steps.specs.Sharing.{share}
 use Rattle.steps.specs.Fill.{tabulate}
 use Rattle.steps.specs.Tape.{elements, bytesFor}
@@ -18,8 +19,8 @@ use Rattle.decomposition.specs.Record.{widthOf, readOutcome, Accepted}
 use Rattle.sbox.specs.Sbox.{sbox}
 use Rattle.sbox.specs.Figures.{sboxDraws, sboxSteps}
 use Rattle.sbox.specs.Polynomials.{basisIn, solutionIn}
-use Rattle.sbox.specs.declared.checking.Tested.{Tested}
-use Rattle.sbox.specs.declared.checking.Tested.the-variants.{Passed, Refused}
+use Rattle.sbox.specs.declared.arguments.Tested.{Tested}
+use Rattle.sbox.specs.declared.arguments.Tested.the-variants.{Passed, Refused}
 use Rattle.sbox.specs.declared.substituting.SboxAnswer.{SboxAnswer}
 use Rattle.sbox.specs.declared.substituting.SboxAnswer.the-variants.{Done as Sbox·Done, Refused as Sbox·Refused}
 use Rattle.sbox.specs.declared.watching.WatchAnswer.{WatchAnswer}
@@ -31,40 +32,46 @@ use Rattle.sbox.specs.declared.watching.WatchAnswer.the-variants.{Done a
 unfoldable pub callProgram : List ℕ → ℕ → List ℕ → Run (List ℕ)
 callProgram r s shares = sbox (widthOf r) s (basisIn (widthOf r) r) (solutionIn (widthOf r) r) shares
 
--- what a call hands back: how many masked products, random bytes and steps the program has
-unfoldable pub callCounts : List ℕ → ℕ → List ℕ → List ℕ → List ℕ
-callCounts r s shares random =
-    length (products 0 (callProgram r s shares) (elements (widthOf r) random))
-    ∷ bytesFor (widthOf r) (length (draws (callProgram r s shares) (elements (widthOf r) random)))
-    ∷ length (trace (callProgram r s shares) (elements (widthOf r) random))
-    ∷ []
-
 -- ---- the tests of both operations
+
+-- the lengths at width n: of the shares, of the random bytes, and, as `fits` says, of what is lent for output
+unfoldable pub sboxLengths : ℕ → ℕ → ℕ → ℕ → Bool → Bool
+sboxLengths n s shares random fits = eqb shares s && (eqb random (bytesFor n (sboxDraws n s)) && fits)
 
 -- Those of the arguments at width n, `fits` saying whether what is lent for output has its length: 7 a share count not 1 to 9; 2 a length;
 -- 3 an element too large, its place counted through shares and random elements. They hand on the width.
 unfoldable pub argumentTests : ℕ → ℕ → List ℕ → List ℕ → Bool → Outcome
 argumentTests n s shares random fits =
     test (oneTo 9 s) 7 0
-    (test (eqb (length shares) s) 2 0
-    (test (eqb (length random) (bytesFor n (sboxDraws n s))) 2 0
-    (test fits 2 0
+    (test (sboxLengths n s (length shares) (length random) fits) 2 0
     (testBelow (2 ^ n) 0 (shares ++ elements n random)
-    (done (n ∷ []))))))
+    (done (n ∷ []))))
 
 -- Read's tests come first
 unfoldable pub callTests : List ℕ → ℕ → List ℕ → List ℕ → Bool → Outcome
 callTests r s shares random fits = andThen (readOutcome r) (argumentTests (widthOf r) s shares random fits)
 
+-- ---- the call
+
+-- its tests, its steps, its random elements of as many bits as the record's width, and how many steps there are
+unfoldable pub sboxCall : List ℕ → ℕ → List ℕ → List ℕ → Call
+sboxCall r s shares random = record {
+  tests = callTests r s shares random;
+  program = callProgram r s shares;
+  width = widthOf r;
+  random = random;
+  total = sboxSteps (widthOf r) s;
+}
+
 -- ---- S-box (record, s, shares, random, out)
 
 -- the outcome, by the length of out
 unfoldable pub sboxOutcome : List ℕ → ℕ → List ℕ → List ℕ → ℕ → Outcome
-sboxOutcome r s shares random out = andThen (callTests r s shares random (eqb out s)) (done (callCounts r s shares random))
+sboxOutcome r s shares random out = callOutcome (sboxCall r s shares random) (eqb out s)
 
 -- what it writes: shares 0 to s - 1 of the result
 unfoldable pub sboxOutput : List ℕ → ℕ → List ℕ → List ℕ → List ℕ
-sboxOutput r s shares random = tabulate s (share (result (callProgram r s shares) (elements (widthOf r) random)))
+sboxOutput r s shares random = tabulate s (share (callResult (sboxCall r s shares random)))
 
 -- what each answer stands for
 abbrev pub sboxReport : SboxAnswer → Outcome
@@ -73,16 +80,13 @@ sboxReport (Sbox·Refused number place) = refused number place
 
 -- ---- Watch S-box (record, s, shares, random, list, values)
 
--- the outcome, by the length of values: the list has as many numbers, and at most 64
+-- the outcome, by the length of values
 unfoldable pub watchOutcome : List ℕ → ℕ → List ℕ → List ℕ → List ℕ → ℕ → Outcome
-watchOutcome r s shares random list values =
-    andThen (callTests r s shares random (listFits (length list) values))
-    (testSteps (sboxSteps (widthOf r) s) list
-    (done (callCounts r s shares random)))
+watchOutcome r s shares random list values = call.watchOutcome (sboxCall r s shares random) list values
 
--- what it writes: the value of the step named at each place of the list
+-- what it writes
 unfoldable pub watchOutput : List ℕ → ℕ → List ℕ → List ℕ → List ℕ → List ℕ
-watchOutput r s shares random list = watched list (trace (callProgram r s shares) (elements (widthOf r) random))
+watchOutput r s shares random list = call.watchOutput (sboxCall r s shares random) list
 
 -- what each answer stands for
 abbrev pub watchReport : WatchAnswer → Outcome
@@ -107,3 +111,5 @@ pub record Callable (n : ℕ) (r : List ℕ) (s : ℕ) (shares random : List ℕ
   pub nine : s ≤ 9
   pub shares-length : length shares ≡ s
   pub random-length : length random ≡ bytesFor n (sboxDraws n s)
+  pub shares-small : Small n shares
+  pub random-small : Small n (elements n random)

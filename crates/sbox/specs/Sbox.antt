@@ -1,55 +1,37 @@
 -- The masked S-box, step by step, at either width. A sharing is held in nine places, 0 past the shares in use.
-use mathlib.Core.Bool.{Bool, true, false}
+use mathlib.Core.Bool.{cond}
 use mathlib.Core.List.{List, [], _∷_, _++_}
 use Prim.Native.Nat.{ℕ, zero, suc, _+_, _-_}
 use lib.Dec.{eqb}
-use lib.ListN.{length, getD, set, replicate}
+use lib.ListN.{length, getD}
 use Rattle.xor.specs.Xor.{_⊕_}
 use Rattle.field.specs.Mul.{mul}
 use Rattle.field.specs.Polynomial.{exponents}
 use Rattle.steps.specs.Program.{Run, return, one, _>>=_, note, for}
 use Rattle.steps.specs.Sharing.{share}
 use Rattle.product.specs.Product.{product}
-
--- a sharing made share by share: f i gives share i
-unfoldable pub byShare : ℕ → (ℕ → Run ℕ) → Run (List ℕ)
-byShare s f = for 0 s (λ i c. do
-  v ← f i
-  return (set c i v)) (replicate 9 0)
-
--- sharing number k of a list
-abbrev pub nth : List (List ℕ) → ℕ → List ℕ
-nth l k = getD l k []
+use Rattle.product.specs.ByShare.{byShare, nth, squares}
 
 -- ---- the powers of x
 
--- the square of a sharing
-unfoldable pub square : ℕ → ℕ → List ℕ → Run (List ℕ)
-square n s a = byShare s (λ i. note (one i) (mul n (share a i) (share a i)))
+-- The classes of powers after that of x begin with a masked product of two sharings made before. These are their numbers, for each class, by width:
+-- x ^ 3 = x · x ^ 2; at width 6 also x ^ 11 = x ^ 3 · x ^ 8
+unfoldable pub factors : ℕ → List (ℕ × ℕ)
+factors n = cond (eqb n 4) ((0, 1) ∷ []) (cond (eqb n 6) ((0, 1) ∷ (6, 3) ∷ []) [])
 
--- a sharing and k squares, each of the one before
-unfoldable pub squares : ℕ → ℕ → ℕ → List ℕ → Run (List (List ℕ))
-squares n s zero a = return (a ∷ [])
-squares n s (suc k) a = do
-  b ← square n s a
-  l ← squares n s k b
-  return (a ∷ l)
+-- the sharings ws, and a class more for each pair of factors
+unfoldable pub classesAfter : ℕ → ℕ → List (ℕ × ℕ) → List (List ℕ) → Run (List (List ℕ))
+classesAfter n s [] ws = return ws
+classesAfter n s (f ∷ fs) ws = do
+  y ← product n s (nth ws (f .0)) (nth ws (f .1))
+  ys ← squares n s (n - 1) y
+  classesAfter n s fs (ws ++ ys)
 
--- at width 6, the class of x ^ 11 = x ^ 3 · x ^ 8
-unfoldable pub thirdClass : Bool → ℕ → ℕ → List (List ℕ) → List (List ℕ) → Run (List (List ℕ))
-thirdClass true n s xs ys = do
-  z ← product n s (nth ys 0) (nth xs 3)
-  squares n s (n - 1) z
-thirdClass false n s xs ys = return []
-
--- the powers of x by the exponents but the first, in the list's order: the class of x, of x ^ 3 = x · x ^ 2 and, at width 6, of x ^ 11
+-- the powers of x by the exponents but the first, in the list's order: the class of x, and the others
 unfoldable pub powers : ℕ → ℕ → List ℕ → Run (List (List ℕ))
 powers n s x = do
   xs ← squares n s (n - 1) x
-  y ← product n s (nth xs 0) (nth xs 1)
-  ys ← squares n s (n - 1) y
-  zs ← thirdClass (eqb n 6) n s xs ys
-  return (xs ++ (ys ++ zs))
+  classesAfter n s (factors n) xs
 
 -- ---- polynomials of x
 

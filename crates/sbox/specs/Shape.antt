@@ -1,31 +1,21 @@
 -- The shape of the masked S-box, part by part as its steps.
-use mathlib.Core.Bool.{Bool, true, false}
 use mathlib.Core.List.{[], _∷_, _++_}
-use Prim.Native.Nat.{ℕ, zero, suc, _-_}
-use lib.Dec.{eqb}
+use Prim.Native.Nat.{ℕ, suc, _-_}
 use lib.ListN.{length}
 use Rattle.field.specs.Polynomial.{exponents}
 use Rattle.steps.specs.Program.{one}
 use Rattle.steps.specs.Shape.{Shape, stepOf, forShape}
 use Rattle.product.specs.Product.{productShape}
+use Rattle.product.specs.ByShare.{times, squareShape}
+use Rattle.sbox.specs.Sbox.{factors}
 
--- one shape, k times
-unfoldable pub times : ℕ → Shape → Shape
-times zero σ = []
-times (suc k) σ = σ ++ times k σ
+-- a class after that of x: a product and its squares
+unfoldable pub classShape : ℕ → ℕ → Shape
+classShape n s = productShape n s ++ times (n - 1) (squareShape s)
 
--- a square: a step for each share
-unfoldable pub squareShape : ℕ → Shape
-squareShape s = forShape 0 s (λ i. stepOf (one i) ∷ [])
-
--- at width 6, the third class: a product and its squares
-unfoldable pub thirdShape : Bool → ℕ → ℕ → Shape
-thirdShape true n s = productShape n s ++ times (n - 1) (squareShape s)
-thirdShape false n s = []
-
--- the powers: the squares of x; a product and its squares; the third class
+-- the powers: the squares of x, and the other classes
 unfoldable pub powersShape : ℕ → ℕ → Shape
-powersShape n s = times (n - 1) (squareShape s) ++ (productShape n s ++ (times (n - 1) (squareShape s) ++ thirdShape (eqb n 6) n s))
+powersShape n s = times (n - 1) (squareShape s) ++ times (length (factors n)) (classShape n s)
 
 -- a term for share i: the product, and the sum
 unfoldable pub termShape : ℕ → Shape

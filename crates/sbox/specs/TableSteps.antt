@@ -1,16 +1,16 @@
 -- For inner contracts only. The steps of Sbox.antt as the code lays them out in its table: the sharings are rows, in the order in which they are made,
 -- first the k powers, then the h polynomials of the basis and the h + 1 of the p, then the h products.
-use mathlib.Core.Bool.{Bool, true, false, cond}
+use mathlib.Core.Bool.{cond}
 use mathlib.Core.List.{List}
 use Prim.Native.Nat.{ℕ, _+_, _-_, _*_}
 use lib.Dec.{eqb}
-use lib.ListN.{getD, replicate}
+use lib.ListN.{length, getD, replicate}
 use Rattle.xor.specs.Xor.{_⊕_}
 use Rattle.field.specs.Mul.{mul}
-use Rattle.field.specs.Polynomial.{exponents}
 use Rattle.steps.specs.Program.{Run, return, one, _>>=_, note, for}
 use Rattle.product.specs.Product.{product}
-use Rattle.sbox.specs.Sbox.{byShare, constant}
+use Rattle.sbox.specs.Sbox.{factors, constant}
+use Rattle.product.specs.ByShare.{byShare}
 use Rattle.sbox.specs.Table.{cell, setCell, row, put}
 
 -- ---- powers
@@ -31,31 +31,25 @@ multiplyRows n s x y z t = do
   c ← product n s (row t x) (row t y)
   return (put s t z c)
 
--- the exponent of the power in row r
-abbrev pub exponentOf : ℕ → ℕ → ℕ
-exponentOf n r = getD (exponents n) (r + 1) 0
+-- the factors of class number k + 1
+abbrev pub factorsOf : ℕ → ℕ → ℕ × ℕ
+factorsOf n k = getD (factors n) k (0, 0)
 
--- the row of a factor of x ^ e, with which a class begins: a where e is 3, b where it is 11
-unfoldable pub factor : ℕ → ℕ → ℕ → ℕ
-factor e a b = cond (eqb e 3) a b
+-- a for the first class after that of x, b for the next
+unfoldable pub choose : ℕ → ℕ → ℕ → ℕ
+choose k a b = cond (eqb k 0) a b
 
--- the class that begins at row z: the product of its factors, x ^ 3 = x · x ^ 2 or x ^ 11 = x ^ 3 · x ^ 8, goes to row z, and each row from z on is squared into the next, up to row l
-unfoldable pub powerClass : ℕ → ℕ → ℕ → ℕ → List ℕ → Run (List ℕ)
-powerClass n s z l t = do
-  t′ ← multiplyRows n s (factor (exponentOf n z) 0 6) (factor (exponentOf n z) 1 3) z t
-  for z l (squareRow n s) t′
-
--- at width 6, the class of x ^ 11
-unfoldable pub thirdRows : Bool → ℕ → ℕ → List ℕ → Run (List ℕ)
-thirdRows true n s t = powerClass n s 12 17 t
-thirdRows false n s t = return t
+-- class number k + 1, which begins at row n · (k + 1): the product of its factors goes there, and each row from there on is squared into the next
+unfoldable pub powerClass : ℕ → ℕ → ℕ → List ℕ → Run (List ℕ)
+powerClass n s k t = do
+  t′ ← multiplyRows n s (factorsOf n k .0) (factorsOf n k .1) (n * (k + 1)) t
+  for (n * (k + 1)) (n * (k + 1) + (n - 1)) (squareRow n s) t′
 
 -- the powers of row 0
 unfoldable pub powerRows : ℕ → ℕ → List ℕ → Run (List ℕ)
 powerRows n s t = do
   t₁ ← for 0 (n - 1) (squareRow n s) t
-  t₂ ← powerClass n s n (2 * n - 1) t₁
-  thirdRows (eqb n 6) n s t₂
+  for 0 (length (factors n)) (powerClass n s) t₁
 
 -- ---- polynomials
 

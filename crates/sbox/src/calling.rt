@@ -6,7 +6,6 @@ ghost use Rattle.steps.specs.Fill.{tabulate};
 ghost use Rattle.steps.specs.Sharing.{share};
 ghost use Rattle.steps.specs.Tape.{elements};
 ghost use Rattle.steps.specs.Machine.{zeroCounts, Went};
-ghost use Rattle.sbox.specs.Figures.{sboxProducts, sboxDraws, sboxSteps};
 ghost use Rattle.sbox.specs.Operations.{callProgram, SameShares, Callable};
 use crate::evaluation::run;
 use product::Masked;
@@ -38,16 +37,12 @@ pub fn call(
 ) -> Masked
     requires { ⌜ Callable width (now rec) s (now shares) (now random) ⌝ }
     requires { ⌜ length (now watch) ≡ length (now values) ⌝ }
-    ensures { λ w. ⌜ Went (sboxProducts width) (sboxDraws width s) (sboxSteps width s) (elements width (now (random .entry))) (now (watch .entry))
+    ensures { λ w. ⌜ Went (elements width (now (random .entry))) (now (watch .entry))
         (callProgram (now (rec .entry)) s (now (shares .entry)))
         zeroCounts (now (values .entry)) (w .shares) (w .counts) (now (values .exit)) ⌝ }
 {
     let x = nine(shares);
-    let n = Counts {
-        products: 0,
-        random: 0,
-        steps: 0,
-    };
+    let n = Counts::zero();
     run(width, s, rec, &x, random, watch, values, n)
 }
 

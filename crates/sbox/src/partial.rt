@@ -1,8 +1,13 @@
 // Sums share by share.
-use steps::Counts;
 
-// A sum so far, with what the run has taken so far.
+// A sum so far, with the next step's number.
 pub struct Partial {
     pub value: u8,
-    pub counts: Counts,
+    pub step: u32,
+}
+
+// A sharing, with the next step's number.
+pub struct Summed {
+    pub shares: [u8; 9],
+    pub step: u32,
 }

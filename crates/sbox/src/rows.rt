@@ -1,12 +1,11 @@
 // The table of the S-box: 28 rows of nine bytes, a sharing in each, in the order in which the sharings are made.
 ghost use mathlib.Core.Path.{_≡_};
 ghost use Prim.Native.Nat.{_<_, _≤_};
-ghost use Rattle.field.specs.Mul.{Width};
+ghost use Rattle.decomposition.specs.Layout.{Known};
 ghost use Rattle.steps.specs.Tape.{elements};
 ghost use Rattle.steps.specs.Machine.{Ready, Went};
 ghost use Rattle.sbox.specs.Table as table;
 ghost use Rattle.sbox.specs.TableSteps as spec;
-ghost use Rattle.sbox.specs.TableCounts.{productDraws, productSteps};
 use product::product;
 use steps::Counts;
 
@@ -38,10 +37,11 @@ pub fn multiply_rows(
     t: &mut [u8; 252],
     n: Counts,
 ) -> Counts
-    requires { ⌜ Width width ⌝ }
+    requires { ⌜ Known width ⌝ }
     requires { ⌜ (x < 28) × (y < 28) × (z < 28) × (s ≤ 9) ⌝ }
-    requires { ⌜ Ready 1 (productDraws s) (productSteps s) n (elements width (now random)) (now watch) (now values) ⌝ }
-    ensures { λ w. ⌜ Went 1 (productDraws s) (productSteps s) (elements width (now (random .entry))) (now (watch .entry))
+    requires { ⌜ Ready (elements width (now random)) (now watch)
+        (spec.multiplyRows width s x y z (now t)) n (now values) ⌝ }
+    ensures { λ w. ⌜ Went (elements width (now (random .entry))) (now (watch .entry))
         (spec.multiplyRows width s x y z (now (t .entry)))
         n (now (values .entry)) (now (t .exit)) w (now (values .exit)) ⌝ }
 {

@@ -1,13 +1,14 @@
 // The operation Watch S-box.
 ghost use mathlib.Core.Path.{_≡_};
 ghost use lib.ListN.{length};
-ghost use Rattle.refusal.specs.Outcome.{done, Answered};
+ghost use Rattle.refusal.specs.Outcome.{done, refused, Answered};
 ghost use Rattle.refusal.specs.Watch.{testSteps};
 ghost use Rattle.sbox.specs.Figures.{sboxSteps};
-ghost use Rattle.sbox.specs.Operations.{Callable, callCounts, watchReport, watchOutcome, watchOutput};
+ghost use Rattle.steps.specs.Call.{callCounts};
+ghost use Rattle.sbox.specs.Operations.{Callable, sboxCall, watchReport, watchOutcome, watchOutput};
+use crate::arguments::Tested;
+use crate::arguments::call_tests;
 use crate::calling::call;
-use crate::checking::Tested;
-use crate::checking::call_tests;
 use crate::figures::step_count;
 use refusal::first_past;
 use refusal::list_fits;
@@ -24,6 +25,15 @@ pub enum WatchAnswer {
         number: u8,
         place: usize,
     },
+}
+
+impl WatchAnswer {
+    // A refusal.
+    fn refuse(number: u8, place: usize) -> WatchAnswer
+        ensures { λ r. ⌜ watchReport r ≡ refused number place ⌝ }
+    {
+        WatchAnswer::Refused { number, place }
+    }
 }
 
 // The masked S-box under a watch: value k is what the step whose number stands at place k of the list records.
@@ -45,7 +55,7 @@ pub fn watch_sbox(
     let fits = list_fits(list.len(), values.len());
     let tested = call_tests(rec, s, shares, random, fits);
     match tested {
-        Tested::Refused { number, place } => WatchAnswer::Refused { number, place },
+        Tested::Refused { number, place } => WatchAnswer::refuse(number, place),
         Tested::Passed { width } => watch(width, s, rec, shares, random, list, values),
     }
 }
@@ -63,17 +73,14 @@ fn watch(
     requires { ⌜ Callable width (now rec) s (now shares) (now random) ⌝ }
     requires { ⌜ length (now list) ≡ length (now values) ⌝ }
     ensures { λ r. ⌜ Answered
-        (testSteps (sboxSteps width s) (now (list .entry)) (done (callCounts (now (rec .entry)) s (now (shares .entry)) (now (random .entry)))))
+        (testSteps (sboxSteps width s) (now (list .entry)) (done (callCounts (sboxCall (now (rec .entry)) s (now (shares .entry)) (now (random .entry))))))
         (watchOutput (now (rec .entry)) s (now (shares .entry)) (now (random .entry)) (now (list .entry)))
         (now (values .entry)) (watchReport r) (now (values .exit)) ⌝ }
 {
     let total = step_count(width, s);
     let past = first_past(total, list);
     if past < list.len() {
-        return WatchAnswer::Refused {
-            number: 8,
-            place: past,
-        };
+        return WatchAnswer::refuse(8, past);
     }
     let count = s as usize;
     let m = call(width, count, rec, shares, random, list, values);

@@ -2,10 +2,10 @@
 use crate::example;
 use crate::refusing::refused;
 use crate::text;
-use cipher::enciphering::BlockAnswer;
-use cipher::enciphering::block;
-use steps::joining::JoinAnswer;
-use steps::joining::join;
+use cipher::BlockAnswer;
+use cipher::block;
+use steps::JoinAnswer;
+use steps::join;
 
 // Prints what the call took, which an auditor can hold to the figures in docs/FORMATS.md.
 fn show_counts(products: usize, random: usize, steps: u32) {

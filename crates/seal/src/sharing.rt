@@ -2,8 +2,8 @@
 use crate::example;
 use crate::refusing::refused;
 use crate::text;
-use steps::splitting::SplitAnswer;
-use steps::splitting::split;
+use steps::SplitAnswer;
+use steps::split;
 
 // Splits a value, and answers whether there are shares to show.
 fn is_split(value: &[u8], masks: &[u8], shares: &mut [u8]) -> bool {

@@ -2,8 +2,8 @@
 use crate::example;
 use crate::refusing::refused;
 use crate::text;
-use cipher::watching::WatchAnswer;
-use cipher::watching::watch_block;
+use cipher::WatchAnswer;
+use cipher::watch_block;
 
 // Watches the steps of a list, and answers whether there are values to show.
 fn watched(

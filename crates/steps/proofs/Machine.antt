@@ -105,8 +105,8 @@ module _ (tape watch : List ℕ) where
 
 -- ---- a run from the start, said of its program
 
-module _ {A : Type 0} {p q r : ℕ} {tape watch : List ℕ} {m : Run A} {vs : List ℕ} {x : A} {n : Counts} {vs′ : List ℕ} where
-  pub went-whole : Went p q r tape watch m zeroCounts vs x n vs′ → Whole tape m x n
+module _ {A : Type 0} {tape watch : List ℕ} {m : Run A} {vs : List ℕ} {x : A} {n : Counts} {vs′ : List ℕ} where
+  pub went-whole : Went tape watch m zeroCounts vs x n vs′ → Whole tape m x n
   went-whole w =
       let e = exec-whole tape watch m zeroCounts vs in
       let f = w .runs in
@@ -116,10 +116,10 @@ module _ {A : Type 0} {p q r : ℕ} {tape watch : List ℕ} {m : Run A} {vs : Li
       record { result-is = cc; products-are = omega arith; draws-are = omega arith; steps-are = omega arith }
 
   -- what a run leaves in the values, where each watched number is that of one of its steps
-  pub went-watched : Went p q r tape watch m zeroCounts vs x n vs′ → length watch ≡ length vs → AllBelow r watch → vs′ ≡ watched watch (trace m tape)
+  pub went-watched : Went tape watch m zeroCounts vs x n vs′ → length watch ≡ length vs → AllBelow (length (trace m tape)) watch → vs′ ≡ watched watch (trace m tape)
   went-watched w l b =
       let e = exec-whole tape watch m zeroCounts vs in
       let f = w .runs in
       let left : vs′ ≡ observed watch 0 (values (trace m tape)) vs = cc in
-      let count : r ≡ length (values (trace m tape)) = rw length-map (omega (arith, w .took-steps, went-whole w .steps-are)) in
+      let count : length (trace m tape) ≡ length (values (trace m tape)) = rw length-map in
       left ∙ observed-watched watch (trace m tape) vs l (rw count at b)

@@ -1,11 +1,12 @@
 -- The laws of Split and Join: the bytes of each share, that joining what Split writes gives the value, and the calls that they accept.
 use mathlib.Core.Path.{_≡_, refl, sym, ap, ap₂, _∙_}
-use mathlib.Core.Bool.{true}
+use mathlib.Core.Bool.{true, and-eq-true-iff}
 use mathlib.Core.List.{List, [], _∷_, _++_}
 use Prim.Native.Nat.{ℕ, zero, suc, _+_, _-_, _*_, _≤_, _<_}
 use native.Mathlib.Nat.{suc-mul, add-assoc, not-suc-le-zero, mul-le-mul}
 use native.Mathlib.Omega.{arith}
 use borrow.Author.Tests.{eqb-true, eq-eqb, le-leb}
+use lib.Dec.{eqb}
 use lib.ListN.{length, getD, length-append, List·getD-append}
 use lib.Seq.{getD-append-add}
 use Rattle.xor.specs.Xor.{_⊕_}
@@ -14,7 +15,7 @@ use Rattle.xor.proofs.Sum.{join-nil, join-cons, join-split}
 use Rattle.refusal.specs.Outcome.{done}
 use Rattle.refusal.specs.Range.{oneTo}
 use Rattle.steps.specs.Fill.{tabulate}
-use Rattle.steps.specs.Operations.{column, maskedByte, splitShares, splitOutcome, joinedByte, joinShares, joinOutcome}
+use Rattle.steps.specs.Operations.{column, maskedByte, splitShares, splitLengths, splitOutcome, joinedByte, joinShares, joinLengths, joinOutcome}
 use Rattle.refusal.proofs.Outcome.{passed}
 use Rattle.refusal.proofs.Range.{one-to-range}
 use Rattle.steps.proofs.Fill.{length-tabulate, getD-tabulate, tabulate-same, tabulate-getD}
@@ -89,15 +90,39 @@ join-of-split (suc k) value masks h =
     (λ j l. ap join (split-column k value masks j l) ∙ join-split (getD value j 0) (column masks (length value) j k))
     ∙ tabulate-getD value 0
 
+-- ---- the tests
+
+-- the lengths that Split takes, and that these are all
+pub split-lengths : (n s masks out : ℕ) → splitLengths n s masks out ≡ true → (oneTo 16 n ≡ true) × (masks ≡ (s - 1) * n) × (out ≡ s * n)
+unfolding splitLengths
+split-lengths n s masks out e =
+    let value = and-eq-true-iff (oneTo 16 n) _ .0 e in
+    let rest = and-eq-true-iff (eqb masks ((s - 1) * n)) _ .0 (value .1) in
+    (value .0, eqb-true _ _ (rest .0), eqb-true _ _ (rest .1))
+
+split-lengths-right : (n s masks out : ℕ) → oneTo 16 n ≡ true → masks ≡ (s - 1) * n → out ≡ s * n → splitLengths n s masks out ≡ true
+unfolding splitLengths
+split-lengths-right n s masks out h em eo = rw (h, eq-eqb masks ((s - 1) * n) em, eq-eqb out (s * n) eo) refl
+
+-- those that Join takes, and that these are all
+pub join-lengths : (shares s out : ℕ) → joinLengths shares s out ≡ true → (oneTo 16 out ≡ true) × (shares ≡ s * out)
+unfolding joinLengths
+join-lengths shares s out e =
+    let both = and-eq-true-iff (oneTo 16 out) _ .0 e in
+    (both .0, eqb-true _ _ (both .1))
+
+join-lengths-right : (shares s out : ℕ) → oneTo 16 out ≡ true → shares ≡ s * out → joinLengths shares s out ≡ true
+unfolding joinLengths
+join-lengths-right shares s out h e = rw (h, eq-eqb shares (s * out) e) refl
+
 -- where Split succeeds, its arguments pass the tests
 pub split-succeeds : (n s masks out : ℕ) → splitOutcome n s masks out ≡ done []
     → (oneTo 9 s ≡ true) × (oneTo 16 n ≡ true) × (masks ≡ (s - 1) * n) × (out ≡ s * n)
 unfolding splitOutcome
 split-succeeds n s masks out e =
     let count = passed _ _ _ _ e in
-    let size = passed _ _ _ _ (count .1) in
-    let rest = passed _ _ _ _ (size .1) in
-    (count .0, size .0, eqb-true _ _ (rest .0), eqb-true _ _ (passed _ _ _ _ (rest .1) .0))
+    let lengths = split-lengths n s masks out (passed _ _ _ _ (count .1) .0) in
+    (count .0, lengths .0, lengths .1, lengths .2)
 
 -- what Split writes where it succeeds, Join takes
 pub join-takes-split : (s : ℕ) (value masks : List ℕ) (out : ℕ)
@@ -107,7 +132,7 @@ unfolding joinOutcome
 join-takes-split s value masks out e =
     let h = split-succeeds (length value) s (length masks) out e in
     let total = length-split s value masks (one-to-range 9 s (h .0) .0) (h .2) in
-    rw (h .0, h .1, eq-eqb (length (splitShares s value masks)) (s * length value) total)
+    rw (h .0, join-lengths-right (length (splitShares s value masks)) s (length value) (h .1) total)
 
 -- ---- arguments of the right lengths are accepted
 
@@ -120,12 +145,12 @@ pub split-accepts : (n s masks out : ℕ) → 0 < s → s ≤ 9 → 0 < n → n 
     → splitOutcome n s masks out ≡ done []
 unfolding splitOutcome
 split-accepts n s masks out some nine long few em eo =
-    rw (in-range 9 s some nine, in-range 16 n long few, eq-eqb masks ((s - 1) * n) em, eq-eqb out (s * n) eo)
+    rw (in-range 9 s some nine, split-lengths-right n s masks out (in-range 16 n long few) em eo)
 
 -- and by Join
 pub join-accepts : (shares s out : ℕ) → 0 < s → s ≤ 9 → 0 < out → out ≤ 16 → shares ≡ s * out → joinOutcome shares s out ≡ done []
 unfolding joinOutcome
-join-accepts shares s out some nine long few e = rw (in-range 9 s some nine, in-range 16 out long few, eq-eqb shares (s * out) e)
+join-accepts shares s out some nine long few e = rw (in-range 9 s some nine, join-lengths-right shares s out (in-range 16 out long few) e)
 
 -- ---- values of one byte
 

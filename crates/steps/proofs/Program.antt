@@ -69,6 +69,18 @@ pub for-end : {A : Type 0} (i s : ℕ) (f : ℕ → A → Run A) (a : A) → s �
 unfolding for loop
 for-end i s f a h = let e : s - i ≡ 0 = omega arith in rw e
 
+-- a loop of one turn is its turn
+pub bind-return : {A : Type 0} (m : Run A) → (m >>= return) ≡ m
+unfolding _>>=_
+bind-return (return a) = refl
+bind-return (step t v m) = ap (step t v) (bind-return m)
+bind-return (draw b k) = ap (draw b) (λ i r. bind-return (k r) i)
+bind-return (mark m) = ap mark (bind-return m)
+
+pub for-once : {A : Type 0} (i : ℕ) (f : ℕ → A → Run A) (a : A) → for i (i + 1) f a ≡ f i a
+unfolding for loop
+for-once {A} i f a = let e : i + 1 - i ≡ 1 = omega arith in ap (λ (k : ℕ). loop f i k a) e ∙ bind-return (f i a)
+
 -- a loop up to s is the loop up to j, and then the rest
 loop-add : {A : Type 0} (f : ℕ → A → Run A) (i k l : ℕ) (a : A) → loop f i (k + l) a ≡ (loop f i k a >>= loop f (i + k) l)
 unfolding loop _>>=_

@@ -3,11 +3,16 @@ pub mod Watch
 pub mod Choices
 pub mod Shape
 pub mod Sharing
+pub mod Linear
 pub mod Coupling
 pub mod Split
 pub mod Recorder
 pub mod Tape
 pub mod Machine
+pub mod Call
 pub mod Loop
 pub mod Fill
+pub mod Bytes
+pub mod ShareBytes
+pub mod Settled
 pub mod Operations

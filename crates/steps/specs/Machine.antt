@@ -1,6 +1,6 @@
 -- For inner contracts only. The machine: a program run as code runs it, from the counts and the values that it is handed to those that it leaves.
 use mathlib.Core.Path.{_≡_}
-use mathlib.Core.List.{List}
+use mathlib.Core.List.{List, []}
 use Prim.Native.Nat.{ℕ, _+_, _^_, _≤_, _<_}
 use lib.ListN.{length, getD}
 use Rattle.steps.specs.declared.counts.Counts.{Counts}
@@ -23,6 +23,14 @@ oneStep n = record { products = n .products; random = n .random; steps = n .step
 abbrev pub zeroCounts : Counts
 zeroCounts = record { products = 0; random = 0; steps = 0 }
 
+-- the counts of a run that has come to step number k and has taken steps alone
+abbrev pub atStep : ℕ → Counts
+atStep k = record { products = 0; random = 0; steps = k }
+
+-- the counts n with the next step's number k
+abbrev pub withSteps : Counts → ℕ → Counts
+withSteps n k = record { products = n .products; random = n .random; steps = k }
+
 -- where a run ends: its result, and the counts and the values then
 pub data Ended (A : Type 0) : Type 0 where
   ended : A → Counts → List ℕ → Ended A
@@ -39,23 +47,33 @@ exec tape watch (mark m) n vs = exec tape watch m (oneProduct n) vs
 abbrev pub onward : {A B : Type 0} → List ℕ → List ℕ → Ended A → (A → Run B) → Ended B
 onward tape watch (ended a n vs) f = exec tape watch (f a) n vs
 
--- ---- the contract of a function that runs a part of a program, which takes so many products, draws and steps
+-- ---- the contract of a function that runs a part of a program
 
--- Before: the counts will fit their types, there are random elements enough, and each watched number has a place for its value.
-pub record Ready (products draws steps : ℕ) (n : Counts) (tape watch vs : List ℕ) : Type 0 where
-  pub products-fit : n .products + products < 2 ^ 64
-  pub draws-fit : n .random + draws < 2 ^ 64
-  pub steps-fit : n .steps + steps < 2 ^ 32
-  pub enough : n .random + draws ≤ length tape
+-- the counts where a run ends
+abbrev pub countsAt : {A : Type 0} → Ended A → Counts
+countsAt (ended a n vs) = n
+
+-- Before: the counts where the program will end fit their types, there are random elements enough, and each watched number has a place for its value.
+pub record Ready {A : Type 0} (tape watch : List ℕ) (m : Run A) (n : Counts) (vs : List ℕ) : Type 0 where
+  pub products-fit : countsAt (exec tape watch m n vs) .products < 2 ^ 64
+  pub draws-fit : countsAt (exec tape watch m n vs) .random < 2 ^ 64
+  pub steps-fit : countsAt (exec tape watch m n vs) .steps < 2 ^ 32
+  pub enough : countsAt (exec tape watch m n vs) .random ≤ length tape
   pub places : length watch ≡ length vs
 
--- After: the program m, run from the counts n and the values vs, has ended in x with the counts n′ and the values vs′, and has taken so many.
-pub record Went {A : Type 0} (products draws steps : ℕ) (tape watch : List ℕ) (m : Run A) (n : Counts) (vs : List ℕ)
-    (x : A) (n′ : Counts) (vs′ : List ℕ) : Type 0 where
+-- After: the program m, run from the counts n and the values vs, has ended in x with the counts n′ and the values vs′.
+pub record Went {A : Type 0} (tape watch : List ℕ) (m : Run A) (n : Counts) (vs : List ℕ) (x : A) (n′ : Counts) (vs′ : List ℕ) : Type 0 where
   pub runs : exec tape watch m n vs ≡ ended x n′ vs′
-  pub took-products : n′ .products ≡ n .products + products
-  pub took-draws : n′ .random ≡ n .random + draws
-  pub took-steps : n′ .steps ≡ n .steps + steps
+
+-- ---- the contract of a function that runs a part that takes steps alone: it needs no tape, and of the counts the step number only
+
+-- before, at step number k
+abbrev pub ReadySteps : {A : Type 0} → List ℕ → Run A → ℕ → List ℕ → Type 0
+ReadySteps watch m k vs = Ready [] watch m (atStep k) vs
+
+-- after, at step number k′
+abbrev pub WentSteps : {A : Type 0} → List ℕ → Run A → ℕ → List ℕ → A → ℕ → List ℕ → Type 0
+WentSteps watch m k vs x k′ vs′ = Went [] watch m (atStep k) vs x (atStep k′) vs′
 
 -- A run from the start, in terms of its program: the result, and the counts as the lengths of its lists of products, draws and steps.
 pub record Whole {A : Type 0} (tape : List ℕ) (m : Run A) (x : A) (n : Counts) : Type 0 where

@@ -1,4 +1,5 @@
 -- The operations Split and Join, on values of 1 to 16 bytes. A sharing is s strings of the value's length, one after the other, share 0 first.
+use mathlib.Core.Bool.{Bool, _&&_}
 use mathlib.Core.List.{List, [], _∷_, _++_}
 use Prim.Native.Nat.{ℕ, zero, suc, _+_, _-_, _*_}
 use lib.Dec.{eqb}
@@ -28,15 +29,16 @@ maskedByte value k masks j = getD value j 0 ⊕ join (column masks (length value
 unfoldable pub splitShares : ℕ → List ℕ → List ℕ → List ℕ
 splitShares s value masks = tabulate (length value) (maskedByte value (s - 1) masks) ++ masks
 
--- The outcome, by s and the lengths of value, masks and out. The tests in their order: 7 a share count not 1 to 9; 2 a value not of 1 to 16 bytes,
--- or another length not matching it and s.
+-- the lengths: the value has 1 to 16 bytes, there is a mask for each share but share 0, and out has room for the shares
+unfoldable pub splitLengths : ℕ → ℕ → ℕ → ℕ → Bool
+splitLengths value s masks out = oneTo 16 value && (eqb masks ((s - 1) * value) && eqb out (s * value))
+
+-- The outcome, by s and the lengths of value, masks and out. The tests in their order: 7 a share count not 1 to 9; 2 a length.
 unfoldable pub splitOutcome : ℕ → ℕ → ℕ → ℕ → Outcome
 splitOutcome value s masks out =
     test (oneTo 9 s) 7 0
-    (test (oneTo 16 value) 2 0
-    (test (eqb masks ((s - 1) * value)) 2 0
-    (test (eqb out (s * value)) 2 0
-    (done []))))
+    (test (splitLengths value s masks out) 2 0
+    (done []))
 
 -- what each answer stands for
 abbrev pub splitReport : SplitAnswer → Outcome
@@ -53,14 +55,16 @@ joinedByte n s shares j = join (column shares n j s)
 unfoldable pub joinShares : ℕ → ℕ → List ℕ → List ℕ
 joinShares n s shares = tabulate n (joinedByte n s shares)
 
--- The outcome, by s and the lengths of shares and out. The tests in their order: 7 a share count not 1 to 9; 2 a value not of 1 to 16 bytes,
--- or another length not matching it and s.
+-- the lengths: out is for 1 to 16 bytes, and each share has as many
+unfoldable pub joinLengths : ℕ → ℕ → ℕ → Bool
+joinLengths shares s out = oneTo 16 out && eqb shares (s * out)
+
+-- The outcome, by s and the lengths of shares and out. The tests in their order: 7 a share count not 1 to 9; 2 a length.
 unfoldable pub joinOutcome : ℕ → ℕ → ℕ → Outcome
 joinOutcome shares s out =
     test (oneTo 9 s) 7 0
-    (test (oneTo 16 out) 2 0
-    (test (eqb shares (s * out)) 2 0
-    (done [])))
+    (test (joinLengths shares s out) 2 0
+    (done []))
 
 -- what each answer stands for
 abbrev pub joinReport : JoinAnswer → Outcome

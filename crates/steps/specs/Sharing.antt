@@ -3,7 +3,8 @@ use mathlib.Core.Path.{_≡_}
 use mathlib.Core.Logic.{_≢_}
 use mathlib.Core.List.{List, [], _∷_}
 use Prim.Native.Nat.{ℕ, _^_, _≤_, _<_}
-use lib.ListN.{length, getD}
+use lib.ListN.{length, getD, replicate}
+use Rattle.xor.specs.Xor.{_⊕_}
 use Rattle.xor.specs.Sum.{join, Small}
 
 -- share i of a sharing
@@ -21,6 +22,23 @@ pub record Filled (g : ℕ → ℕ) (i : ℕ) (c : List ℕ) : Type 0 where
   pub places : length c ≡ 9
   pub filled : (j : ℕ) → j < i → share c j ≡ g j
   pub past : (j : ℕ) → i ≤ j → share c j ≡ 0
+
+-- ---- sharings, share by share
+
+-- f of the shares of two sharings; past the end of a list its shares are 0
+unfoldable pub shareWise : (ℕ → ℕ → ℕ) → List ℕ → List ℕ → List ℕ
+shareWise f [] [] = []
+shareWise f [] (y ∷ b) = f 0 y ∷ shareWise f [] b
+shareWise f (x ∷ a) [] = f x 0 ∷ shareWise f a []
+shareWise f (x ∷ a) (y ∷ b) = f x y ∷ shareWise f a b
+
+-- the sharing of c that has it all in share 0
+unfoldable pub alone : ℕ → List ℕ
+alone c = c ∷ []
+
+-- a sharing held in nine places, 0 past its shares
+unfoldable pub held : List ℕ → List ℕ
+held a = shareWise _⊕_ a (replicate 9 0)
 
 -- ---- agreement but for share u
 

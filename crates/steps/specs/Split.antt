@@ -13,11 +13,15 @@ masks n (suc k) = do
   l ← masks n k
   return (r ∷ l)
 
+-- the shares that a secret and its masks settle: share 0 is the secret plus the masks
+abbrev pub settled : ℕ → List ℕ → List ℕ
+settled x masks = x ⊕ join masks ∷ masks
+
 -- a secret of n bits in s shares: shares 1 to s - 1 are masks, share 0 is the secret plus all masks
 unfoldable pub split : ℕ → ℕ → ℕ → Run (List ℕ)
 split n s x = do
   l ← masks n (s - 1)
-  return (x ⊕ join l ∷ l)
+  return (settled x l)
 
 -- several secrets of n bits, one after the other
 unfoldable pub splitAll : ℕ → ℕ → List ℕ → Run (List (List ℕ))

@@ -1,10 +1,10 @@
 // The operation Join.
 ghost use mathlib.Core.Path.{_≡_};
-ghost use Prim.Native.Nat.{_*_, _≤_};
+ghost use Prim.Native.Nat.{_*_, _<_, _≤_};
 ghost use lib.ListN.{length};
-ghost use Rattle.refusal.specs.Outcome.{Answered};
+ghost use Rattle.refusal.specs.Outcome.{refused, Answered};
 ghost use Rattle.steps.specs.Fill.{fill};
-ghost use Rattle.steps.specs.Operations.{joinReport, joinOutcome, joinedByte, joinShares};
+ghost use Rattle.steps.specs.Operations.{joinReport, joinLengths, joinOutcome, joinedByte, joinShares};
 use crate::columns::column_sum;
 use refusal::one_to;
 
@@ -12,6 +12,15 @@ use refusal::one_to;
 pub enum JoinAnswer {
     Done,
     Refused { number: u8, place: usize },
+}
+
+impl JoinAnswer {
+    // A refusal.
+    fn refuse(number: u8, place: usize) -> JoinAnswer
+        ensures { λ r. ⌜ joinReport r ≡ refused number place ⌝ }
+    {
+        JoinAnswer::Refused { number, place }
+    }
 }
 
 // Joins s shares, 1 to 9, that lie one after the other, into the value of 1 to 16 bytes that is their sum.
@@ -22,26 +31,24 @@ pub fn join(shares: &[u8], s: u32, out: &mut [u8]) -> JoinAnswer
 {
     let count = s as usize;
     if !one_to(9, count) {
-        return JoinAnswer::Refused {
-            number: 7,
-            place: 0,
-        };
+        return JoinAnswer::refuse(7, 0);
     }
-    let n = out.len();
-    if !one_to(16, n) {
-        return JoinAnswer::Refused {
-            number: 2,
-            place: 0,
-        };
-    }
-    if shares.len() != count * n {
-        return JoinAnswer::Refused {
-            number: 2,
-            place: 0,
-        };
+    if !lengths_fit(shares.len(), count, out.len()) {
+        return JoinAnswer::refuse(2, 0);
     }
     add_shares(shares, count, out);
     JoinAnswer::Done
+}
+
+// Whether shares and out, of so many bytes, have the lengths for so many shares.
+fn lengths_fit(shares: usize, count: usize, out: usize) -> bool
+    requires { ⌜ (0 < count) × (count ≤ 9) ⌝ }
+    ensures { λ r. ⌜ r ≡ joinLengths shares count out ⌝ }
+{
+    if !one_to(16, out) {
+        return false;
+    }
+    shares == count * out
 }
 
 // Writes the sum of s shares.

@@ -1,11 +1,11 @@
 // The operation Split.
 ghost use mathlib.Core.Path.{_≡_};
-ghost use Prim.Native.Nat.{_+_, _-_, _*_, _≤_};
+ghost use Prim.Native.Nat.{_+_, _-_, _*_, _<_, _≤_};
 ghost use lib.ListN.{length};
 ghost use lib.Seq.{paste};
-ghost use Rattle.refusal.specs.Outcome.{Answered};
+ghost use Rattle.refusal.specs.Outcome.{refused, Answered};
 ghost use Rattle.steps.specs.Fill.{fill};
-ghost use Rattle.steps.specs.Operations.{splitReport, splitOutcome, maskedByte, splitShares};
+ghost use Rattle.steps.specs.Operations.{splitReport, splitLengths, splitOutcome, maskedByte, splitShares};
 use crate::columns::column_sum;
 use refusal::one_to;
 
@@ -13,6 +13,15 @@ use refusal::one_to;
 pub enum SplitAnswer {
     Done,
     Refused { number: u8, place: usize },
+}
+
+impl SplitAnswer {
+    // A refusal.
+    fn refuse(number: u8, place: usize) -> SplitAnswer
+        ensures { λ r. ⌜ splitReport r ≡ refused number place ⌝ }
+    {
+        SplitAnswer::Refused { number, place }
+    }
 }
 
 // Splits a value of 1 to 16 bytes into s shares, 1 to 9: share 0 is the value plus all masks, the rest are the masks.
@@ -24,33 +33,29 @@ pub fn split(value: &[u8], s: u32, masks: &[u8], out: &mut [u8]) -> SplitAnswer
 {
     let count = s as usize;
     if !one_to(9, count) {
-        return SplitAnswer::Refused {
-            number: 7,
-            place: 0,
-        };
+        return SplitAnswer::refuse(7, 0);
     }
     let n = value.len();
-    if !one_to(16, n) {
-        return SplitAnswer::Refused {
-            number: 2,
-            place: 0,
-        };
-    }
-    if masks.len() != (count - 1) * n {
-        return SplitAnswer::Refused {
-            number: 2,
-            place: 0,
-        };
-    }
-    if out.len() != count * n {
-        return SplitAnswer::Refused {
-            number: 2,
-            place: 0,
-        };
+    if !lengths_fit(n, count, masks.len(), out.len()) {
+        return SplitAnswer::refuse(2, 0);
     }
     first_share(value, count - 1, masks, &mut *out);
     copy_masks(masks, n, out);
     SplitAnswer::Done
+}
+
+// Whether value, masks and out, of so many bytes, have the lengths for so many shares.
+fn lengths_fit(value: usize, count: usize, masks: usize, out: usize) -> bool
+    requires { ⌜ (0 < count) × (count ≤ 9) ⌝ }
+    ensures { λ r. ⌜ r ≡ splitLengths value count masks out ⌝ }
+{
+    if !one_to(16, value) {
+        return false;
+    }
+    if masks != (count - 1) * value {
+        return false;
+    }
+    out == count * value
 }
 
 // Writes share 0: the value plus its k masks.

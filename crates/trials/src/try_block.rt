@@ -6,8 +6,8 @@ use crate::fields::next;
 use crate::fields::next_of;
 use crate::fields::part;
 use crate::numbers;
-use cipher::enciphering::BlockAnswer;
-use cipher::enciphering::block;
+use cipher::BlockAnswer;
+use cipher::block;
 
 fn answer_of(a: BlockAnswer) -> answer::Answer {
     match a {

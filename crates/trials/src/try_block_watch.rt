@@ -8,8 +8,8 @@ use crate::fields::next_list;
 use crate::fields::next_of;
 use crate::fields::part;
 use crate::numbers;
-use cipher::watching::WatchAnswer;
-use cipher::watching::watch_block;
+use cipher::WatchAnswer;
+use cipher::watch_block;
 
 fn answer_of(a: WatchAnswer) -> answer::Answer {
     match a {

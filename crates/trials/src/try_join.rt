@@ -6,8 +6,8 @@ use crate::fields::next;
 use crate::fields::next_of;
 use crate::fields::part;
 use crate::numbers;
-use steps::joining::JoinAnswer;
-use steps::joining::join;
+use steps::JoinAnswer;
+use steps::join;
 
 fn answer_of(a: JoinAnswer) -> answer::Answer {
     match a {

@@ -6,8 +6,8 @@ use crate::fields::next;
 use crate::fields::next_of;
 use crate::fields::part;
 use crate::numbers;
-use sbox::substituting::SboxAnswer;
-use sbox::substituting::sbox;
+use sbox::SboxAnswer;
+use sbox::sbox;
 
 fn answer_of(a: SboxAnswer) -> answer::Answer {
     match a {

@@ -8,8 +8,8 @@ use crate::fields::next_list;
 use crate::fields::next_of;
 use crate::fields::part;
 use crate::numbers;
-use sbox::watching::WatchAnswer;
-use sbox::watching::watch_sbox;
+use sbox::WatchAnswer;
+use sbox::watch_sbox;
 
 fn answer_of(a: WatchAnswer) -> answer::Answer {
     match a {

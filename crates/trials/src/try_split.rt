@@ -6,8 +6,8 @@ use crate::fields::next;
 use crate::fields::next_of;
 use crate::fields::part;
 use crate::numbers;
-use steps::splitting::SplitAnswer;
-use steps::splitting::split;
+use steps::SplitAnswer;
+use steps::split;
 
 fn answer_of(a: SplitAnswer) -> answer::Answer {
     match a {

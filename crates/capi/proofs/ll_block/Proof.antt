@@ -5,9 +5,6 @@ use Rattle.capi.proofs.Words.{reported}
 use Rattle.capi.proofs.ll_block.Statement.{statement}
 use Rattle.capi.proofs.ll_block.Tie as tie
 
-block-requires : tie.Need-block-requires
-block-requires c κs = search needs
-
 enum-known-a : tie.Need-enum-known-a
 enum-known-a c = search needs
 
@@ -26,15 +23,9 @@ cast-put-2 c = search needs
 put-requires-2 : tie.Need-put-requires-2
 put-requires-2 c κs = search needs
 
-same-length : tie.Need-same-length
-same-length c = search needs
-
 returns : tie.Need-returns
 unfolding words
 returns c = reported (c .before .before .before .before .before .before .before .block .ensures) (rw (c .before .before .before .a .given .1) (c .put .ensures))
-
-same-length-2 : tie.Need-same-length-2
-same-length-2 c = search needs
 
 returns-2 : tie.Need-returns-2
 unfolding words
@@ -44,14 +35,14 @@ pub ll-block-spec : {M : Type 1} → statement M
 ll-block-spec =
     tie.close
     (tie.spec
-    block-requires
+    (λ c κs. search needs)
     enum-known-a
     cast-put
     put-requires
     enum-known-a-2
     cast-put-2
     put-requires-2
-    same-length
+    (λ c. search needs)
     returns
-    same-length-2
+    (λ c. search needs)
     returns-2)

@@ -5,9 +5,6 @@ use Rattle.capi.proofs.Words.{said}
 use Rattle.capi.proofs.ll_check.Statement.{statement}
 use Rattle.capi.proofs.ll_check.Tie as tie
 
-check-requires : tie.Need-check-requires
-check-requires c κs = search needs
-
 enum-told : tie.Need-enum-told
 enum-told c = search needs
 
@@ -35,7 +32,7 @@ pub ll-check-spec : {M : Type 1} → statement M
 ll-check-spec =
     tie.close
     (tie.spec
-    check-requires
+    (λ c κs. search needs)
     enum-told
     put-requires
     enum-known-a

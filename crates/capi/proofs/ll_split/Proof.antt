@@ -5,9 +5,6 @@ use borrow.Author.Needs.{needs}
 use Rattle.capi.proofs.ll_split.Statement.{statement}
 use Rattle.capi.proofs.ll_split.Tie as tie
 
-split-requires : tie.Need-split-requires
-split-requires c κs = search needs
-
 enum-told : tie.Need-enum-told
 enum-told c = search needs
 
@@ -23,15 +20,9 @@ cast-put c = search needs
 put-requires-2 : tie.Need-put-requires-2
 put-requires-2 c κs = search needs
 
-same-length : tie.Need-same-length
-same-length c = search needs
-
 returns : tie.Need-returns
 unfolding words
 returns c = reported (c .before .before .before .before .before .before .split .ensures) (rw (c .before .before .enum-told .given .1) (c .put .ensures))
-
-same-length-2 : tie.Need-same-length-2
-same-length-2 c = search needs
 
 returns-2 : tie.Need-returns-2
 unfolding words
@@ -41,13 +32,13 @@ pub ll-split-spec : {M : Type 1} → statement M
 ll-split-spec =
     tie.close
     (tie.spec
-    split-requires
+    (λ c κs. search needs)
     enum-told
     put-requires
     enum-known-a
     cast-put
     put-requires-2
-    same-length
+    (λ c. search needs)
     returns
-    same-length-2
+    (λ c. search needs)
     returns-2)

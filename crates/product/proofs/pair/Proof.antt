@@ -1,12 +1,11 @@
 -- `product::pair` meets its contract: its steps are those of the definition.
-use mathlib.Core.Path.{refl}
 use borrow.Author.Needs.{needs}
-use Rattle.product.proofs.Runs.{pair-runs}
+use Rattle.product.proofs.Runs.{pair-runs, pair-room}
 use Rattle.product.proofs.pair.Statement.{statement}
 use Rattle.product.proofs.pair.Tie as tie
 
 draw-requires : tie.Need-draw-requires
-draw-requires c κs = search needs
+draw-requires c κs = let room = pair-room _ _ _ _ _ _ (c .before .before .before .before .before .pre .1 .1) in search needs
 
 shared-slice-read-double-and-add : tie.Need-shared-slice-read-double-and-add
 shared-slice-read-double-and-add c = search needs
@@ -36,7 +35,7 @@ slice-aggregate-record-all : tie.Need-slice-aggregate-record-all
 slice-aggregate-record-all c = search needs
 
 record-all-requires : tie.Need-record-all-requires
-record-all-requires c κs = search needs
+record-all-requires c κs = let room = pair-room _ _ _ _ _ _ (c .before .before .before .before .before .before .before .before .before .before .before .before .before .before .before .before .pre .1 .1) in search needs
 
 element-write-c : tie.Need-element-write-c
 element-write-c c = search needs
@@ -45,19 +44,11 @@ element-write-c-2 : tie.Need-element-write-c-2
 element-write-c-2 c = search needs
 
 add-drawn : tie.Need-add-drawn
-add-drawn c = search needs
-
-same-length : tie.Need-same-length
-same-length c = search needs
+add-drawn c = let room = pair-room _ _ _ _ _ _ (c .before .before .before .before .before .before .before .before .before .before .before .before .before .before .before .before .before .before .before .pre .1 .1) in search needs
 
 returns : tie.Need-returns
 returns c =
-    record {
-      runs = pair-runs _ _ _ _ _ _ _ _ _ _ _ _ _ _ _ (search needs) (search needs) (search needs) (search needs) (search needs);
-      took-products = search needs;
-      took-draws = refl;
-      took-steps = search needs;
-    }
+    record { runs = pair-runs _ _ _ _ _ _ _ _ _ _ _ _ _ _ _ (search needs) (search needs) (search needs) (search needs) (search needs) }
 
 pub pair-spec : {M : Type 1} → statement M
 pair-spec =
@@ -77,5 +68,5 @@ pair-spec =
     element-write-c
     element-write-c-2
     add-drawn
-    same-length
+    (λ c. search needs)
     returns)

@@ -22,17 +22,11 @@ rows-requires-2 c κs =
     let p = c .before .before .before .before .before .before .before .before .pre in
     (inr refl, (p .1 .0, rw (at-6 (c .before .before)) at (p .1 .1)))
 
-same-length : tie.Need-same-length
-same-length c = search needs
-
 returns : tie.Need-returns
 returns c = rw (at-4 (c .before .before .before .before .before)) (c .before .before .rows .ensures)
-
-same-length-2 : tie.Need-same-length-2
-same-length-2 c = search needs
 
 returns-2 : tie.Need-returns-2
 returns-2 c = rw (at-6 (c .before .before .before .before .before)) (c .before .before .rows2 .ensures)
 
 pub pairs-spec : {M : Type 1} → statement M
-pairs-spec = tie.close (tie.spec rows-requires rows-requires-2 same-length returns same-length-2 returns-2)
+pairs-spec = tie.close (tie.spec rows-requires rows-requires-2 (λ c. search needs) returns (λ c. search needs) returns-2)

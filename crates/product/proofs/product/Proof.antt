@@ -1,32 +1,31 @@
 -- `product::product` meets its contract: the starts, and then the rows.
-use native.Mathlib.Omega.{arith}
 use borrow.Author.Needs.{needs}
 use Rattle.steps.proofs.Machine.{then-runs, mark-runs}
+use Rattle.steps.proofs.Parts.{ready-first, ready-next, ready-mark, ready-products}
+use Rattle.steps.proofs.StepsAlone.{ready-steps, went-steps}
 use Rattle.product.specs.Product as spec
+use Rattle.product.proofs.Runs.{starts-alone}
 use Rattle.product.proofs.product.Statement.{statement}
 use Rattle.product.proofs.product.Tie as tie
 
 add-begun : tie.Need-add-begun
-add-begun c = search needs
+unfolding spec.product
+add-begun c = let h = ready-products _ (ready-mark _ (c .before .before .before .before .before .before .pre .1 .1)) in search needs
 
 starts-requires : tie.Need-starts-requires
-starts-requires c κs = (search needs, (search needs, omega arith))
+unfolding spec.product
+starts-requires c κs =
+    (search needs, (search needs, ready-steps (starts-alone _ _ _ _ _) (ready-first _ _ (ready-mark _ (c .before .before .before .before .before .before .before .before .pre .1 .1)))))
 
 pairs-requires : tie.Need-pairs-requires
-pairs-requires c κs = (search needs, (search needs, omega arith))
-
-same-length : tie.Need-same-length
-same-length c = search needs
+unfolding spec.product
+pairs-requires c κs =
+    (search needs, (search needs, ready-next _ (ready-mark _ (c .before .before .before .before .before .before .before .before .before .before .before .before .before .pre .1 .1)) (went-steps (starts-alone _ _ _ _ _) (c .before .before .before .before .starts .ensures)) (search needs)))
 
 returns : tie.Need-returns
 unfolding spec.product
 returns c =
-    record {
-      runs = mark-runs _ _ _ _ _ (search then-runs);
-      took-products = omega arith;
-      took-draws = omega arith;
-      took-steps = omega arith;
-    }
+    record { runs = mark-runs _ _ _ _ _ (then-runs _ _ _ _ _ _ (went-steps (starts-alone _ _ _ _ _) (c .before .before .before .before .before .before .before .starts .ensures) .runs) (c .before .before .pairs .ensures .runs)) }
 
 pub product-spec : {M : Type 1} → statement M
-product-spec = tie.close (tie.spec add-begun starts-requires pairs-requires same-length returns)
+product-spec = tie.close (tie.spec add-begun starts-requires pairs-requires (λ c. search needs) returns)

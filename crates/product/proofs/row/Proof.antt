@@ -1,17 +1,16 @@
 -- `product::row` meets its contract: a loop over the pairs of share i.
-use mathlib.Core.Path.{refl}
 use Prim.Native.Nat.{_+_, _-_}
 use borrow.Author.Needs.{needs}
 use Rattle.steps.specs.Tape.{elements}
-use Rattle.steps.specs.Loop.{Going, each}
-use Rattle.steps.proofs.Loop.{going, going-ready, going-on, gone, each-turn, each-end}
+use Rattle.steps.specs.Loop.{Going}
+use Rattle.steps.proofs.Loop.{going, going-ready, going-on, gone}
 use Rattle.product.specs.Product as spec
 use Rattle.product.proofs.row.Statement.{statement}
 use Rattle.product.proofs.row.Tie as tie
 
 abbrev Inv-loop : tie.InvT-loop
 Inv-loop width s a b i random watch values₀ c₀ n₀ j₀ values c n j =
-    Going (λ j. 0) (each 1 s) (each 7 s) (elements width random) watch (spec.pair width a b i) (i + 1) s c₀ n₀ values₀
+    Going (elements width random) watch (spec.pair width a b i) (i + 1) s c₀ n₀ values₀
     j c n values
 
 abbrev μ-loop : tie.MeasureT-loop
@@ -24,9 +23,10 @@ loop-holds : tie.Need-loop-holds Inv-loop μ-loop
 loop-holds c = search going
 
 pair-requires : tie.Need-pair-requires Inv-loop μ-loop
+unfolding spec.row
 pair-requires c κs =
     let h = c .before .before .loop-test .taken in
-    (search needs, (search needs, going-ready (c .before .before .before .loop .inv) (search needs) refl (each-turn 1 h) (each-turn 7 h)))
+    (search needs, (search needs, going-ready (c .before .before .before .loop .inv) (search needs) h))
 
 add-j-2 : tie.Need-add-j-2 Inv-loop μ-loop
 add-j-2 c = search needs
@@ -37,7 +37,7 @@ loop-less c = search needs
 loop-again : tie.Need-loop-again Inv-loop μ-loop
 loop-again c =
     let h = c .before .before .before .before .before .loop-test .taken in
-    going-on (c .before .before .before .before .before .before .loop .inv) h (c .before .before .pair .ensures) (search needs) refl (each-turn 1 h) (each-turn 7 h)
+    going-on (c .before .before .before .before .before .before .loop .inv) h (c .before .before .pair .ensures) (search needs)
 
 same-length : tie.Need-same-length Inv-loop μ-loop
 same-length c = search needs
@@ -46,7 +46,7 @@ returns : tie.Need-returns Inv-loop μ-loop
 unfolding spec.row
 returns c =
     let h = c .loop-test .left in
-    gone (c .before .loop .inv) h refl (each-end 1 h) (each-end 7 h)
+    gone (c .before .loop .inv) h
 
 pub row-spec : {M : Type 1} → statement M
 row-spec =

@@ -1,19 +1,16 @@
 -- `product::rows` meets its contract: a loop over the rows of pairs.
-use mathlib.Core.Path.{refl}
 use Prim.Native.Nat.{_-_}
 use borrow.Author.Needs.{needs}
 use Rattle.steps.specs.Tape.{elements}
 use Rattle.steps.specs.Loop.{Going}
 use Rattle.steps.proofs.Loop.{going, going-ready, going-on, gone}
 use Rattle.product.specs.Product as spec
-use Rattle.product.specs.Counts.{eachPair}
-use Rattle.product.proofs.Runs.{pairs-turn, pairs-end}
 use Rattle.product.proofs.rows.Statement.{statement}
 use Rattle.product.proofs.rows.Tie as tie
 
 abbrev Inv-loop : tie.InvT-loop
 Inv-loop width s a b random watch values₀ c₀ n₀ i₀ values c n i =
-    Going (λ i. 0) (eachPair 1 s) (eachPair 7 s) (elements width random) watch (spec.row width s a b) 0 s c₀ n₀ values₀
+    Going (elements width random) watch (spec.row width s a b) 0 s c₀ n₀ values₀
     i c n values
 
 abbrev μ-loop : tie.MeasureT-loop
@@ -25,7 +22,7 @@ loop-holds c = search going
 row-requires : tie.Need-row-requires Inv-loop μ-loop
 row-requires c κs =
     let h = c .before .before .loop-test .taken in
-    (search needs, (search needs, going-ready (c .before .before .before .loop .inv) (search needs) refl (pairs-turn 1 h) (pairs-turn 7 h)))
+    (search needs, (search needs, going-ready (c .before .before .before .loop .inv) (search needs) h))
 
 add-i : tie.Need-add-i Inv-loop μ-loop
 add-i c = search needs
@@ -36,8 +33,7 @@ loop-less c = search needs
 loop-again : tie.Need-loop-again Inv-loop μ-loop
 loop-again c =
     let h = c .before .before .before .before .before .loop-test .taken in
-    going-on (c .before .before .before .before .before .before .loop .inv) h (c .before .before .row .ensures) (search needs) refl (pairs-turn 1 h)
-    (pairs-turn 7 h)
+    going-on (c .before .before .before .before .before .before .loop .inv) h (c .before .before .row .ensures) (search needs)
 
 same-length : tie.Need-same-length Inv-loop μ-loop
 same-length c = search needs
@@ -45,7 +41,7 @@ same-length c = search needs
 returns : tie.Need-returns Inv-loop μ-loop
 returns c =
     let h = c .loop-test .left in
-    gone (c .before .loop .inv) h refl (pairs-end 1 h) (pairs-end 7 h)
+    gone (c .before .loop .inv) h
 
 pub rows-spec : {M : Type 1} → statement M
 rows-spec =

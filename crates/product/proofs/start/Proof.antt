@@ -1,6 +1,6 @@
 -- `product::start` meets its contract: its step is that of the definition.
 use borrow.Author.Needs.{needs}
-use Rattle.product.proofs.Runs.{start-runs}
+use Rattle.product.proofs.Runs.{start-runs, start-room}
 use Rattle.product.proofs.start.Statement.{statement}
 use Rattle.product.proofs.start.Tie as tie
 
@@ -14,17 +14,14 @@ mul-requires : tie.Need-mul-requires
 mul-requires c κs = search needs
 
 record-requires : tie.Need-record-requires
-record-requires c κs = search needs
+record-requires c κs = let room = start-room _ _ _ _ _ (c .before .before .before .before .before .before .before .before .pre .1 .1) in search needs
 
 element-write-c : tie.Need-element-write-c
 element-write-c c = search needs
 
-same-length : tie.Need-same-length
-same-length c = search needs
-
 returns : tie.Need-returns
 returns c =
-    record { runs = search start-runs; took-products = search needs; took-draws = search needs; took-steps = search needs }
+    record { runs = search start-runs }
 
 pub start-spec : {M : Type 1} → statement M
 start-spec =
@@ -35,5 +32,5 @@ start-spec =
     mul-requires
     record-requires
     element-write-c
-    same-length
+    (λ c. search needs)
     returns)

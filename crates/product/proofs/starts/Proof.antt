@@ -1,21 +1,20 @@
 -- `product::starts` meets its contract: a loop over the shares.
-use mathlib.Core.Path.{refl}
 use Prim.Native.Nat.{_-_}
 use borrow.Author.Needs.{needs}
-use Rattle.steps.specs.Tape.{elements}
-use Rattle.steps.specs.Loop.{Going, each}
-use Rattle.steps.proofs.Loop.{going, going-ready, going-on, gone, each-turn, each-end}
+use mathlib.Core.List.{[]}
+use Rattle.steps.specs.Machine.{atStep}
+use Rattle.steps.specs.Loop.{Going}
+use Rattle.steps.proofs.Loop.{going, going-ready, going-on, gone}
 use Rattle.product.specs.Product as spec
 use Rattle.product.proofs.starts.Statement.{statement}
 use Rattle.product.proofs.starts.Tie as tie
 
 abbrev Inv-loop : tie.InvT-loop
-Inv-loop width s a b random watch values₀ c₀ n₀ i₀ values c n i =
-    Going (λ i. 0) (λ i. 0) (each 1 s) (elements width random) watch (spec.start width a b) 0 s c₀ n₀ values₀
-    i c n values
+Inv-loop width s a b watch values₀ c₀ n next₀ i₀ values c next i =
+    Going [] watch (spec.start width a b) 0 s c₀ (atStep n) values₀ i c (atStep next) values
 
 abbrev μ-loop : tie.MeasureT-loop
-μ-loop width s a b random watch values₀ c₀ n₀ i₀ values c n i = s - i
+μ-loop width s a b watch values₀ c₀ n next₀ i₀ values c next i = s - i
 
 loop-holds : tie.Need-loop-holds Inv-loop μ-loop
 loop-holds c = search going
@@ -23,7 +22,7 @@ loop-holds c = search going
 start-requires : tie.Need-start-requires Inv-loop μ-loop
 start-requires c κs =
     let h = c .before .before .loop-test .taken in
-    (search needs, (search needs, going-ready (c .before .before .before .loop .inv) (search needs) refl refl (each-turn 1 h)))
+    (search needs, (search needs, going-ready (c .before .before .before .loop .inv) (search needs) h))
 
 add-i : tie.Need-add-i Inv-loop μ-loop
 add-i c = search needs
@@ -34,7 +33,7 @@ loop-less c = search needs
 loop-again : tie.Need-loop-again Inv-loop μ-loop
 loop-again c =
     let h = c .before .before .before .before .before .loop-test .taken in
-    going-on (c .before .before .before .before .before .before .loop .inv) h (c .before .before .start .ensures) (search needs) refl refl (each-turn 1 h)
+    going-on (c .before .before .before .before .before .before .loop .inv) h (c .before .before .start .ensures) (search needs)
 
 same-length : tie.Need-same-length Inv-loop μ-loop
 same-length c = search needs
@@ -42,7 +41,7 @@ same-length c = search needs
 returns : tie.Need-returns Inv-loop μ-loop
 returns c =
     let h = c .loop-test .left in
-    gone (c .before .loop .inv) h refl refl (each-end 1 h)
+    gone (c .before .loop .inv) h
 
 pub starts-spec : {M : Type 1} → statement M
 starts-spec =

@@ -10,9 +10,6 @@ use Rattle.refusal.proofs.Large.{large-within}
 use Rattle.refusal.proofs.first_large.Statement.{statement}
 use Rattle.refusal.proofs.first_large.Tie as tie
 
-all-below-requires : tie.Need-all-below-requires
-all-below-requires c κs = search needs
-
 returns : tie.Need-returns
 returns c =
     let bound = c .before .before .before .args .bound in
@@ -27,4 +24,4 @@ returns-2 : tie.Need-returns-2
 returns-2 c = search needs
 
 pub first-large-spec : {M : Type 1} → statement M
-first-large-spec = tie.close (tie.spec all-below-requires returns find-large-requires returns-2)
+first-large-spec = tie.close (tie.spec (λ c κs. search needs) returns find-large-requires returns-2)

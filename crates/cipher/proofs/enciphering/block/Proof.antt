@@ -7,7 +7,8 @@ use lib.Dec.{eqb}
 use lib.ListN.{length}
 use Rattle.refusal.specs.Outcome.{done}
 use Rattle.refusal.proofs.Outcome.{refuses}
-use Rattle.cipher.specs.Operations.{testedReport, callTests, blockOutcome}
+use Rattle.cipher.specs.Operations.{testedReport, callTests, blockOutcome, blockCall}
+use Rattle.steps.specs.Call.{callOutcome}
 use Rattle.cipher.proofs.Calls.{tests-passed}
 use borrow.Author.Needs.{needs}
 use Rattle.cipher.proofs.enciphering.block.Statement.{statement}
@@ -21,9 +22,6 @@ tested : (c : tie.After-enum-told) → let a = c .before .before .before .before
     callTests (a .rec .now) (a .s) (a .key .now) (a .block .now) (a .random .now) (eqb (length (a .out .now)) (8 * a .s)) ≡ done []
 tested c = sym (c .before .before .call-tests .ensures) ∙ ap testedReport (c .enum-told .given .1)
 
-call-tests-requires : tie.Need-call-tests-requires
-call-tests-requires c κs = search needs
-
 enum-known-tested : tie.Need-enum-known-tested
 enum-known-tested c = search needs
 
@@ -36,16 +34,13 @@ encipher-requires c κs =
     (p .0, eqb-true _ _ (p .1))
 
 returns : tie.Need-returns
-unfolding blockOutcome
+unfolding blockOutcome blockCall callOutcome
 returns c =
-    let e = sym (c .before .before .before .call-tests .ensures) ∙ ap testedReport (c .before .tested .given .1) in
-    refuses (rw e)
-
-same-length : tie.Need-same-length
-same-length c = search needs
+    let e = sym (c .before .before .before .before .call-tests .ensures) ∙ ap testedReport (c .before .before .tested .given .1) in
+    refuses (c .refuse .ensures) (rw e)
 
 returns-2 : tie.Need-returns-2
-unfolding blockOutcome
+unfolding blockOutcome blockCall callOutcome
 returns-2 c = rw (tested (c .before .before .before .before)) (c .before .before .encipher .ensures)
 
 pub block-spec : {M : Type 1} → statement M
@@ -53,10 +48,11 @@ block-spec =
     tie.close
     (tie.spec
     mul-fits
-    call-tests-requires
+    (λ c κs. search needs)
     enum-known-tested
+    (λ c κs. search needs)
     enum-told
     encipher-requires
     returns
-    same-length
+    (λ c. search needs)
     returns-2)

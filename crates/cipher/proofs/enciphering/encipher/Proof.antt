@@ -1,9 +1,9 @@
 -- `enciphering::encipher` meets its contract: a run under an empty watch list, whose result is copied out.
 use mathlib.Core.Path.{_∙_}
 use native.Mathlib.Omega.{arith}
+use Rattle.xor.specs.Sum.{Small}
 use Rattle.refusal.proofs.Outcome.{succeeds}
 use Rattle.steps.proofs.Machine.{went-whole}
-use Rattle.cipher.specs.Operations.{callProgram}
 use Rattle.cipher.proofs.Calls.{record-room, call-closed, call-ready, call-counts, call-output}
 use borrow.Author.Needs.{needs}
 use Rattle.cipher.proofs.enciphering.encipher.Statement.{statement}
@@ -18,7 +18,9 @@ slice-aggregate-encrypt-2 c = search needs
 encrypt-requires : tie.Need-encrypt-requires
 encrypt-requires c κs =
     let p = c .before .before .before .before .before .before .before .pre .0 in
-    ((p .some, p .nine, record-room p, p .key-length, p .block-length), (call-closed p, call-ready p (search needs)))
+    let hk : Small 8 (c .before .before .before .before .before .before .before .args .key .now) = λ j. omega (arith, c .before .before .before .before .before .shared-slice-known2 .given j) in
+    let hb : Small 8 (c .before .before .before .before .before .before .before .args .block .now) = λ j. omega (arith, c .before .before .before .before .shared-slice-known3 .given j) in
+    ((p .some, p .nine, record-room p, p .key-length, p .block-length), (call-closed p, call-ready p hk hb (search needs)))
 
 slice-aggregate-store : tie.Need-slice-aggregate-store
 slice-aggregate-store c = search needs
@@ -28,14 +30,7 @@ store-requires c κs =
     let p = c .before .before .before .before .before .before .before .before .before .before .before .before .pre in
     (p .1, omega (arith, p .0 .nine, slice-aggregate-store (c .before)))
 
-bytes-for-requires : tie.Need-bytes-for-requires
-bytes-for-requires c κs = search needs
-
-same-length : tie.Need-same-length
-same-length c = search needs
-
 returns : tie.Need-returns
-unfolding callProgram
 returns c =
     let p = c .before .before .before .before .before .before .before .before .before .before .before .before .before .before .before .before .before .pre in
     let w = went-whole (c .before .before .before .before .before .before .before .before .before .encrypt .ensures .0) in
@@ -50,6 +45,6 @@ encipher-spec =
     encrypt-requires
     slice-aggregate-store
     store-requires
-    bytes-for-requires
-    same-length
+    (λ c κs. search needs)
+    (λ c. search needs)
     returns)

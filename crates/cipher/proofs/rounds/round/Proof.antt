@@ -1,101 +1,94 @@
 -- `rounds::round` meets its contract: the key addition, the S-box layer, the permutation and the key update.
-use mathlib.Core.Path.{sym}
-use Prim.Native.Nat.{_+_, _*_}
-use Rattle.steps.specs.Loop.{each}
-use Rattle.sbox.specs.Figures.{sboxProducts, sboxDraws, sboxSteps}
-use Rattle.present.specs.Masked.{maskedRound}
-use Rattle.steps.proofs.Parts.{ready-counts, went-counts, ready-first, ready-next, went-then, went-map}
-use Rattle.layers.proofs.Past.{kept-then, zero-kept}
-use Rattle.cipher.proofs.Figures.{round-products, round-draws, round-steps}
 use native.Mathlib.Omega.{arith}
 use borrow.Author.Needs.{needs}
+use Rattle.steps.proofs.Parts.{ready-first, ready-next, went-then, went-map}
+use Rattle.steps.proofs.StepsAlone.{ready-steps, went-counted}
+use Rattle.present.specs.Masked.{maskedRound}
+use Rattle.steps.proofs.Past.{kept-then, zero-kept}
+use Rattle.cipher.proofs.Runs.{addition-alone, permutation-alone}
 use Rattle.cipher.proofs.rounds.round.Statement.{statement}
 use Rattle.cipher.proofs.rounds.round.Tie as tie
 
+-- the parts done, the counts after the steps alone, and the start, as seen from each
+abbrev permuted : tie.After-with-steps2 → tie.After-permutation
+permuted c = c .before .before .before
+
+abbrev boxed : tie.After-permutation → tie.After-sbox-layer
+boxed c = c .before .before .before .before .before
+
+abbrev counted : tie.After-sbox-layer → tie.After-with-steps
+counted c = c .before .before .before
+
+abbrev added : tie.After-with-steps → tie.After-add-round-key
+added c = c .before .before .before
+
+abbrev start : tie.After-add-round-key → tie.Start
+start c = c .before .before .before .before .before .before .before .before .before .before .before
+
 add-round-key-requires : tie.Need-add-round-key-requires
+unfolding maskedRound
 add-round-key-requires c κs =
-    let start = c .before .before .before .before .before .before .before .before .before in
-    let s = start .args .s in
-    let p = sboxProducts 4 in
-    let q = sboxDraws 4 s in
-    let r = sboxSteps 4 s in
-    let ready = ready-counts (start .pre .1 .1 .0) round-products (round-draws s) (round-steps s) in (
-      start .pre .0 .1,
-      ready-first 0 (each p 16 0 + (0 + p)) 0 (each q 16 0 + (0 + q)) (each 16 s 0) (each r 16 0 + (each 16 s 0 + (20 * s + r + 2))) ready,
-    )
+    let p = c .before .before .before .before .before .before .before .before .before .before .pre in
+    (p .0 .1, ready-steps (addition-alone _ _ _) (ready-first _ _ (p .1 .1 .0)))
 
 sbox-layer-requires : tie.Need-sbox-layer-requires
+unfolding maskedRound
 sbox-layer-requires c κs =
-    let added = c .before .before .before .before in
-    let start = added .before .before .before .before .before .before .before .before .before .before in
-    let s = start .args .s in
-    let p = sboxProducts 4 in
-    let q = sboxDraws 4 s in
-    let r = sboxSteps 4 s in
-    let ready = ready-counts (start .pre .1 .1 .0) round-products (round-draws s) (round-steps s) in
-    let ready₁ = ready-next (each p 16 0 + (0 + p)) (each q 16 0 + (0 + q)) (each r 16 0 + (each 16 s 0 + (20 * s + r + 2))) ready
-    (added .add-round-key .ensures .0) (omega (arith, added .add-round-key .kept)) in
-    let h = start .pre .0 in (
-      (h .1, h .3),
-      (start .pre .1 .0, ready-first (each p 16 0) (0 + p) (each q 16 0) (0 + q) (each r 16 0) (each 16 s 0 + (20 * s + r + 2)) ready₁),
-    )
+    let w = c .before .before in
+    let p = start (added w) .pre in
+    let a = added w .add-round-key in
+    let ready = ready-next _ (p .1 .1 .0) (went-counted (addition-alone _ _ _) (w .with-steps .ensures) (a .ensures .0)) (omega (arith, a .kept)) in
+    ((p .0 .1, p .0 .3), (p .1 .0, ready-first _ _ ready))
 
 permutation-requires : tie.Need-permutation-requires
+unfolding maskedRound
 permutation-requires c κs =
-    let boxed = c .before .before .before .before in
-    let added = boxed .before .before .before .before .before in
-    let start = added .before .before .before .before .before .before .before .before .before .before in
-    let s = start .args .s in
-    let p = sboxProducts 4 in
-    let q = sboxDraws 4 s in
-    let r = sboxSteps 4 s in
-    let ready = ready-counts (start .pre .1 .1 .0) round-products (round-draws s) (round-steps s) in
-    let ready₁ = ready-next (each p 16 0 + (0 + p)) (each q 16 0 + (0 + q)) (each r 16 0 + (each 16 s 0 + (20 * s + r + 2))) ready
-    (added .add-round-key .ensures .0) (omega (arith, added .add-round-key .kept)) in
-    let ready₂ = ready-next (0 + p) (0 + q) (each 16 s 0 + (20 * s + r + 2)) ready₁
-    (boxed .sbox-layer .ensures .0) (omega (arith, boxed .sbox-layer .kept)) in
-    (start .pre .0 .1, ready-first 0 p 0 q (each 16 s 0) (20 * s + r + 2) ready₂)
+    let b = c .before .before .before .before in
+    let w = counted b in
+    let p = start (added w) .pre in
+    let a = added w .add-round-key in
+    let ready = ready-next _ (p .1 .1 .0) (went-counted (addition-alone _ _ _) (w .with-steps .ensures) (a .ensures .0)) (omega (arith, a .kept)) in
+    let next = ready-next _ ready (b .sbox-layer .ensures .0) (omega (arith, b .sbox-layer .kept)) in
+    (p .0 .1, ready-steps (permutation-alone _ _) (ready-first _ _ next))
 
 update-key-requires : tie.Need-update-key-requires
+unfolding maskedRound
 update-key-requires c κs =
-    let permuted = c .before .before .before .before in
-    let boxed = permuted .before .before .before .before .before in
-    let added = boxed .before .before .before .before .before in
-    let start = added .before .before .before .before .before .before .before .before .before .before in
-    let s = start .args .s in
-    let p = sboxProducts 4 in
-    let q = sboxDraws 4 s in
-    let r = sboxSteps 4 s in
-    let ready = ready-counts (start .pre .1 .1 .0) round-products (round-draws s) (round-steps s) in
-    let ready₁ = ready-next (each p 16 0 + (0 + p)) (each q 16 0 + (0 + q)) (each r 16 0 + (each 16 s 0 + (20 * s + r + 2))) ready
-    (added .add-round-key .ensures .0) (omega (arith, added .add-round-key .kept)) in
-    let ready₂ = ready-next (0 + p) (0 + q) (each 16 s 0 + (20 * s + r + 2)) ready₁
-    (boxed .sbox-layer .ensures .0) (omega (arith, boxed .sbox-layer .kept)) in
-    let ready₃ = ready-next p q (20 * s + r + 2) ready₂ (permuted .permutation .ensures .0) (omega (arith, permuted .permutation .kept)) in
-    (start .pre .0, (start .pre .1 .0, ready₃))
+    let v = c .before .before in
+    let m = permuted v .permutation in
+    let b = boxed (permuted v) in
+    let w = counted b in
+    let p = start (added w) .pre in
+    let a = added w .add-round-key in
+    let ready = ready-next _ (p .1 .1 .0) (went-counted (addition-alone _ _ _) (w .with-steps .ensures) (a .ensures .0)) (omega (arith, a .kept)) in
+    let next = ready-next _ ready (b .sbox-layer .ensures .0) (omega (arith, b .sbox-layer .kept)) in
+    let last = ready-next _ next (went-counted (permutation-alone _ _) (v .with-steps2 .ensures) (m .ensures .0)) (omega (arith, m .kept)) in
+    (p .0, (p .1 .0, ready-first _ _ last))
 
 same-length : tie.Need-same-length
-same-length c = search needs
+same-length c =
+    let v = c .before .before .before .before .before in
+    let b = boxed (permuted v) in
+    let first = added (counted b) .add-round-key .kept in
+    omega (arith, first, b .sbox-layer .kept, permuted v .permutation .kept, c .before .before .update-key .kept)
 
 returns : tie.Need-returns
 unfolding maskedRound
 returns c =
-    let updated = c .before .before in
-    let permuted = updated .before .before .before .before .before in
-    let boxed = permuted .before .before .before .before .before in
-    let added = boxed .before .before .before .before .before in
-    let start = added .before .before .before .before .before .before .before .before .before .before in
-    let s = start .args .s in
-    let zero = start .pre .1 .1 .1 in (
-      went-counts
-          (went-then _ (added .add-round-key .ensures .0)
-          (went-then _ (boxed .sbox-layer .ensures .0)
-          (went-then _ (permuted .permutation .ensures .0) (went-map _ (updated .update-key .ensures .0)))))
-          (sym round-products) (sym (round-draws s)) (sym (round-steps s)),
+    let v = c .before .before .before .before .before in
+    let b = boxed (permuted v) in
+    let w = counted b in
+    let first = added w .add-round-key .ensures in
+    let second = b .sbox-layer .ensures in
+    let third = permuted v .permutation .ensures in
+    let last = c .before .before .update-key .ensures in
+    let zero = start (added w) .pre .1 .1 .1 in (
+      went-then _ (went-counted (addition-alone _ _ _) (w .with-steps .ensures) (first .0))
+          (went-then _ (second .0)
+          (went-then _ (went-counted (permutation-alone _ _) (v .with-steps2 .ensures) (third .0)) (went-map _ (last .0)))),
       record {
-        key-zero = zero-kept (zero .key-zero) (updated .update-key .ensures .1);
-        block-zero = zero-kept (zero .block-zero)
-            (kept-then (added .add-round-key .ensures .1) (kept-then (boxed .sbox-layer .ensures .1) (permuted .permutation .ensures .1)));
+        key-zero = zero-kept (zero .key-zero) (last .1);
+        block-zero = zero-kept (zero .block-zero) (kept-then (first .1) (kept-then (second .1) (third .1)));
       },
     )
 
@@ -104,8 +97,10 @@ round-spec =
     tie.close
     (tie.spec
     add-round-key-requires
+    (λ c κs. search needs)
     sbox-layer-requires
     permutation-requires
+    (λ c κs. search needs)
     update-key-requires
     same-length
     returns)

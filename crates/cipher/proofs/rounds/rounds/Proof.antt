@@ -1,20 +1,19 @@
 -- `rounds::rounds` meets its contract: a loop over the rounds.
 use Prim.Native.Nat.{_-_}
 use Rattle.steps.specs.Tape.{elements}
-use Rattle.steps.specs.Loop.{Going, each}
-use Rattle.steps.proofs.Loop.{going, going-ready, going-on, gone, each-turn, each-end}
+use Rattle.steps.specs.Loop.{Going}
+use Rattle.steps.proofs.Loop.{going, going-ready, going-on, gone}
 use Rattle.present.specs.Present.{size80}
 use Rattle.present.specs.Masked.{maskedRound}
 use Rattle.cipher.specs.Box.{recordSbox}
 use Rattle.cipher.specs.Rounds.{sharings, ZeroPastShares}
-use Rattle.cipher.specs.Figures.{roundProducts, roundDraws, roundSteps}
 use borrow.Author.Needs.{needs}
 use Rattle.cipher.proofs.rounds.rounds.Statement.{statement}
 use Rattle.cipher.proofs.rounds.rounds.Tie as tie
 
 abbrev Inv-loop : tie.InvT-loop
 Inv-loop s rec random watch values₀ t₀ r₀ values t r =
-    (Going (each roundProducts 32) (each (roundDraws s) 32) (each (roundSteps s) 32) (elements 4 random) watch
+    (Going (elements 4 random) watch
     (maskedRound (recordSbox s rec) size80 s) 1 32 (sharings s t₀) (t₀ .counts) values₀ r (sharings s t) (t .counts) values)
     × ZeroPastShares s t
 
@@ -26,16 +25,12 @@ loop-holds c = (search going, c .before .before .before .before .pre .1 .1 .1)
 
 round-requires : tie.Need-round-requires Inv-loop μ-loop
 round-requires c κs =
-    let s = c .before .before .before .before .before .before .before .args .s in
     let h = c .before .loop-test .taken in
     let p = c .before .before .before .before .before .before .before .pre in (
       (p .0 .0, p .0 .1, h, p .0 .2),
       (
         p .1 .0,
-        (
-          going-ready (c .before .before .loop .inv .0) (p .1 .1 .0) (each-turn roundProducts h) (each-turn (roundDraws s) h) (each-turn (roundSteps s) h),
-          c .before .before .loop .inv .1,
-        ),
+        (going-ready (c .before .before .loop .inv .0) (p .1 .1 .0) h, c .before .before .loop .inv .1),
       ),
     )
 
@@ -47,23 +42,16 @@ loop-less c = search needs
 
 loop-again : tie.Need-loop-again Inv-loop μ-loop
 loop-again c =
-    let s = c .before .before .before .before .before .before .before .before .before .before .args .s in
     let h = c .before .before .before .before .loop-test .taken in
-    let made = c .before .before .round .ensures in (
-      going-on (c .before .before .before .before .before .loop .inv .0) h (made .0) (search needs)
-          (each-turn roundProducts h) (each-turn (roundDraws s) h) (each-turn (roundSteps s) h),
-      made .1,
-    )
+    let made = c .before .before .round .ensures in
+    (going-on (c .before .before .before .before .before .loop .inv .0) h (made .0) (search needs), made .1)
 
 same-length : tie.Need-same-length Inv-loop μ-loop
 same-length c = search needs
 
 returns : tie.Need-returns Inv-loop μ-loop
 returns c =
-    let s = c .before .before .before .before .before .before .args .s in
-    let h = c .loop-test .left in
-    let inv = c .before .loop .inv in
-    (gone (inv .0) h (each-end roundProducts h) (each-end (roundDraws s) h) (each-end (roundSteps s) h), inv .1)
+    let inv = c .before .loop .inv in (gone (inv .0) (c .loop-test .left), inv .1)
 
 pub rounds-spec : {M : Type 1} → statement M
 rounds-spec =

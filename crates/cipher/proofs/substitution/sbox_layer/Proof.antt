@@ -1,12 +1,11 @@
 -- `substitution::sbox_layer` meets its contract: a loop over the nibbles.
 use Prim.Native.Nat.{_-_}
 use Rattle.steps.specs.Tape.{elements}
-use Rattle.steps.specs.Loop.{Going, each}
-use Rattle.steps.proofs.Loop.{going, going-ready, going-on, gone, each-turn, each-end}
-use Rattle.sbox.specs.Figures.{sboxProducts, sboxDraws, sboxSteps}
+use Rattle.steps.specs.Loop.{Going}
+use Rattle.steps.proofs.Loop.{going, going-ready, going-on, gone}
 use Rattle.present.specs.Masked.{maskedNibble, maskedSboxLayer}
-use Rattle.layers.specs.State.{sharing, KeptPast}
-use Rattle.layers.proofs.Past.{kept-same, kept-then}
+use Rattle.steps.specs.ShareBytes.{sharing, KeptPast}
+use Rattle.steps.proofs.Past.{kept-same, kept-then}
 use Rattle.cipher.specs.Box.{recordSbox}
 use borrow.Author.Needs.{needs}
 use Rattle.cipher.proofs.substitution.sbox_layer.Statement.{statement}
@@ -14,7 +13,7 @@ use Rattle.cipher.proofs.substitution.sbox_layer.Tie as tie
 
 abbrev Inv-loop : tie.InvT-loop
 Inv-loop s rec random watch values₀ block₀ n₀ k₀ values block n k =
-    (Going (each (sboxProducts 4) 16) (each (sboxDraws 4 s) 16) (each (sboxSteps 4 s) 16) (elements 4 random) watch
+    (Going (elements 4 random) watch
     (maskedNibble (recordSbox s rec)) 0 16 (sharing 8 s block₀) n₀ values₀ k (sharing 8 s block) n values)
     × KeptPast 8 s block₀ block
 
@@ -25,14 +24,13 @@ loop-holds : tie.Need-loop-holds Inv-loop μ-loop
 loop-holds c = (search going, kept-same)
 
 sbox-nibble-requires : tie.Need-sbox-nibble-requires Inv-loop μ-loop
+unfolding maskedSboxLayer
 sbox-nibble-requires c κs =
-    let a = c .before .before .before .before .before .before .before .before .args in
     let h = c .before .before .loop-test .taken in (
       search needs,
       (
         c .before .before .before .before .before .before .before .before .pre .1 .0,
-        going-ready (c .before .before .before .loop .inv .0) (search needs)
-            (each-turn (sboxProducts 4) h) (each-turn (sboxDraws 4 (a .s)) h) (each-turn (sboxSteps 4 (a .s)) h),
+        going-ready (c .before .before .before .loop .inv .0) (search needs) h,
       ),
     )
 
@@ -44,14 +42,10 @@ loop-less c = search needs
 
 loop-again : tie.Need-loop-again Inv-loop μ-loop
 loop-again c =
-    let a = c .before .before .before .before .before .before .before .before .before .before .before .args in
     let h = c .before .before .before .before .before .loop-test .taken in
     let inv = c .before .before .before .before .before .before .loop .inv in
-    let made = c .before .before .sbox-nibble .ensures in (
-      going-on (inv .0) h (made .0) (search needs)
-          (each-turn (sboxProducts 4) h) (each-turn (sboxDraws 4 (a .s)) h) (each-turn (sboxSteps 4 (a .s)) h),
-      kept-then (inv .1) (made .1),
-    )
+    let made = c .before .before .sbox-nibble .ensures in
+    (going-on (inv .0) h (made .0) (search needs), kept-then (inv .1) (made .1))
 
 same-length : tie.Need-same-length Inv-loop μ-loop
 same-length c = search needs
@@ -59,10 +53,7 @@ same-length c = search needs
 returns : tie.Need-returns Inv-loop μ-loop
 unfolding maskedSboxLayer
 returns c =
-    let a = c .before .before .before .before .before .before .args in
-    let h = c .loop-test .left in
-    let inv = c .before .loop .inv in
-    (gone (inv .0) h (each-end (sboxProducts 4) h) (each-end (sboxDraws 4 (a .s)) h) (each-end (sboxSteps 4 (a .s)) h), inv .1)
+    let inv = c .before .loop .inv in (gone (inv .0) (c .loop-test .left), inv .1)
 
 pub sbox-layer-spec : {M : Type 1} → statement M
 sbox-layer-spec =

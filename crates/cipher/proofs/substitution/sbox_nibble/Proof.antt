@@ -1,9 +1,8 @@
 -- `substitution::sbox_nibble` meets its contract: the column, its S-box, and the column put back.
 use mathlib.Core.Path.{refl}
-use mathlib.Core.Logic.{inl}
-use Rattle.layers.specs.State.{sharing}
+use Rattle.steps.specs.ShareBytes.{sharing}
 use Rattle.cipher.specs.Box.{recordSbox}
-use Rattle.cipher.proofs.Nibbles.{record-bytes, closed-result, nibble-substituted}
+use Rattle.cipher.proofs.Nibbles.{record-bytes, nibble-ready, closed-result, nibble-substituted}
 use borrow.Author.Needs.{needs}
 use Rattle.cipher.proofs.substitution.sbox_nibble.Statement.{statement}
 use Rattle.cipher.proofs.substitution.sbox_nibble.Tie as tie
@@ -12,7 +11,16 @@ column-requires : tie.Need-column-requires
 column-requires c κs = search needs
 
 run-requires : tie.Need-run-requires
-run-requires c κs = (inl refl, ((search needs, record-bytes (search needs)), search needs))
+run-requires c κs =
+    let taken = c .before .before in
+    let start = c .before .before .before .before .before .before .before .before .before in
+    let a = start .args in (
+      refl,
+      (
+        (search needs, record-bytes (search needs)),
+        nibble-ready (recordSbox (a .s) (a .rec .now)) (a .k) (sharing (a .w) (a .s) (a .l .now)) _ (taken .column .ensures) (start .pre .1 .1),
+      ),
+    )
 
 replace-column-requires : tie.Need-replace-column-requires
 replace-column-requires c κs =
@@ -24,12 +32,6 @@ replace-column-requires c κs =
       closed-result (recordSbox (a .s) (a .rec .now)) (a .k) (a .w) (a .s) (a .l .now) (start .pre .1 .0) (search needs)
           (taken .column .ensures) (boxed .run .ensures),
     )
-
-same-length : tie.Need-same-length
-same-length c = search needs
-
-same-length-2 : tie.Need-same-length-2
-same-length-2 c = search needs
 
 returns : tie.Need-returns
 returns c =
@@ -49,6 +51,6 @@ sbox-nibble-spec =
     column-requires
     run-requires
     replace-column-requires
-    same-length
-    same-length-2
+    (λ c. search needs)
+    (λ c. search needs)
     returns)

@@ -7,14 +7,12 @@ use lib.Dec.{leb, eqb}
 use lib.ListN.{length}
 use Rattle.refusal.specs.Outcome.{done}
 use Rattle.refusal.proofs.Outcome.{refuses}
-use Rattle.cipher.specs.Operations.{testedReport, callTests, watchOutcome}
+use Rattle.cipher.specs.Operations.{testedReport, callTests, watchOutcome, blockCall}
+use Rattle.steps.specs.Call as call
 use Rattle.cipher.proofs.Calls.{tests-passed}
 use borrow.Author.Needs.{needs}
 use Rattle.cipher.proofs.watching.watch_block.Statement.{statement}
 use Rattle.cipher.proofs.watching.watch_block.Tie as tie
-
-list-fits-requires : tie.Need-list-fits-requires
-list-fits-requires c κs = search needs
 
 -- where the tests are passed
 tested : (c : tie.After-enum-told) → let a = c .before .before .before .before .before .before .before .before .before .before .args in
@@ -22,9 +20,6 @@ tested : (c : tie.After-enum-told) → let a = c .before .before .before .before
     (eqb (length (a .list .now)) (length (a .values .now)) && leb (length (a .list .now)) 64) ≡ done []
 tested c =
     rw (← (c .before .before .before .list-fits .ensures)) (sym (c .before .before .call-tests .ensures) ∙ ap testedReport (c .enum-told .given .1))
-
-call-tests-requires : tie.Need-call-tests-requires
-call-tests-requires c κs = search needs
 
 enum-known-tested : tie.Need-enum-known-tested
 enum-known-tested c = search needs
@@ -38,27 +33,25 @@ watch-requires c κs =
     (p .0, eqb-true _ _ (and-eq-true-iff _ _ .0 (p .1) .0))
 
 returns : tie.Need-returns
-unfolding watchOutcome
+unfolding watchOutcome blockCall call.watchOutcome
 returns c =
-    let e = sym (c .before .before .before .call-tests .ensures) ∙ ap testedReport (c .before .tested .given .1) in
-    refuses (rw (← (c .before .before .before .before .list-fits .ensures), e))
-
-same-length : tie.Need-same-length
-same-length c = search needs
+    let e = sym (c .before .before .before .before .call-tests .ensures) ∙ ap testedReport (c .before .before .tested .given .1) in
+    refuses (c .refuse .ensures) (rw (← (c .before .before .before .before .before .list-fits .ensures), e))
 
 returns-2 : tie.Need-returns-2
-unfolding watchOutcome
+unfolding watchOutcome blockCall call.watchOutcome
 returns-2 c = rw (tested (c .before .before .before .before)) (c .before .before .watch .ensures)
 
 pub watch-block-spec : {M : Type 1} → statement M
 watch-block-spec =
     tie.close
     (tie.spec
-    list-fits-requires
-    call-tests-requires
+    (λ c κs. search needs)
+    (λ c κs. search needs)
     enum-known-tested
+    (λ c κs. search needs)
     enum-told
     watch-requires
     returns
-    same-length
+    (λ c. search needs)
     returns-2)

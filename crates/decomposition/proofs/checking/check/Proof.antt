@@ -41,10 +41,10 @@ check-at-requires c κs =
 returns : tie.Need-returns
 unfolding checkOutcome
 returns c =
-    let s = c .before .before .before .before .before .before in
+    let s = c .before .before .before .before .before .before .before in
     let r = s .args .bytes .now in
-    let e = sym (c .before .before .before .read .ensures) ∙ ap readReport (c .before .answer .given .1) in
-    sym (ap (λ (t : Outcome). andThen t (checkAt (layout (getD r 5 0)) r (s .args .table .now))) e)
+    let e = sym (c .before .before .before .before .read .ensures) ∙ ap readReport (c .before .before .answer .given .1) in
+    c .refuse .ensures ∙ sym (ap (λ (t : Outcome). andThen t (checkAt (layout (getD r 5 0)) r (s .args .table .now))) e)
 
 returns-2 : tie.Need-returns-2
 unfolding checkOutcome
@@ -63,6 +63,7 @@ check-spec =
     (tie.spec
     read-requires
     enum-known-answer
+    (λ c κs. search needs)
     enum-known-answer-2
     layout-of-requires
     check-at-requires

@@ -78,9 +78,6 @@ solve-requires c κs =
       ),
     )
 
-zero-requires : tie.Need-zero-requires
-zero-requires c κs = search needs
-
 write-head-requires : tie.Need-write-head-requires
 write-head-requires c κs =
     let v = c .before .before .before .before .before .before .before .before .before .before in
@@ -88,12 +85,6 @@ write-head-requires c κs =
     let z = s .pre .1 in
     let y = s .pre .0 in
     (width-few y, omega (arith, z .whole, z .record-room, y .solution, y .whole, head-room v))
-
-same-length : tie.Need-same-length
-same-length c = search needs
-
-same-length-2 : tie.Need-same-length-2
-same-length-2 c = search needs
 
 returns : tie.Need-returns
 returns c =
@@ -122,15 +113,9 @@ returns c =
       },
     )
 
-same-length-3 : tie.Need-same-length-3
-same-length-3 c = search needs
-
-same-length-4 : tie.Need-same-length-4
-same-length-4 c = search needs
-
 returns-2 : tie.Need-returns-2
 returns-2 c =
-    let zr = c .before .before .before in
+    let zr = c .before .before .before .before in
     let v = zr .before .before .before .before .before .before in
     let a = v .before .before .before .before .before in
     let s = start v in
@@ -140,9 +125,9 @@ returns-2 c =
     let p : List ℕ = v .solve .last .1 .1 .1 .1 .0 in
     let n = solved-none (s .pre .0) (s .args .table .now) (s .args .basis .now) (s .pre .1 .elements) (a .equations .last .1 .1 .1 .0)
     (take k (drop (L .start) l)) p
-    (a .equations .ensures) {b = v .solve .result} (v .solve .ensures .1) (c .if1 .left) in (
+    (a .equations .ensures) {b = v .solve .result} (v .solve .ensures .1) (c .before .if1 .left) in (
       cleared zr,
-      record {
+      rw (c .refuse .ensures) record {
         number-is = refl;
         place-is = refl;
         none = n .0;
@@ -160,11 +145,12 @@ find-spec =
     part-solve-start
     part-solve-end
     solve-requires
-    zero-requires
+    (λ c κs. search needs)
     write-head-requires
-    same-length
-    same-length-2
+    (λ c. search needs)
+    (λ c. search needs)
     returns
-    same-length-3
-    same-length-4
+    (λ c κs. search needs)
+    (λ c. search needs)
+    (λ c. search needs)
     returns-2)

@@ -19,14 +19,11 @@ call s = record { table = s .args .table .now; basis = s .args .basis .now; work
 width-right : (c : tie.Else1) → Known (c .before .before .before .before .before .before .args .width)
 width-right c = test-passes (c .before .known .ensures) (c .if1 .left)
 
-known-requires : tie.Need-known-requires
-known-requires c κs = search needs
-
 returns : tie.Need-returns
 returns c =
-    let s = c .before .before .before .before .before .before in
-    let k : known (s .args .width) ≡ false = test-fails (c .before .known .ensures) (c .if1 .taken) in
-    fit-end (s .args .width) (call s) _ (rw k (refl, refl, refl))
+    let s = c .before .before .before .before .before .before .before in
+    let k : known (s .args .width) ≡ false = test-fails (c .before .before .known .ensures) (c .before .if1 .taken) in
+    fit-end (s .args .width) (call s) _ (rw k (c .refuse .ensures, refl, refl))
 
 layout-of-requires : tie.Need-layout-of-requires
 layout-of-requires c κs = width-right c
@@ -35,12 +32,6 @@ fit-at-requires : tie.Need-fit-at-requires
 fit-at-requires c κs =
     rw (c .before .before .layout-of .ensures) (sizes (c .before .before .before .before .before .before .before .before .before .args .width)
     (width-right (c .before .before .before)))
-
-same-length : tie.Need-same-length
-same-length c = search needs
-
-same-length-2 : tie.Need-same-length-2
-same-length-2 c = search needs
 
 returns-2 : tie.Need-returns-2
 returns-2 c =
@@ -54,10 +45,11 @@ pub fit-spec : {M : Type 1} → statement M
 fit-spec =
     tie.close
     (tie.spec
-    known-requires
+    (λ c κs. search needs)
+    (λ c κs. search needs)
     returns
     layout-of-requires
     fit-at-requires
-    same-length
-    same-length-2
+    (λ c. search needs)
+    (λ c. search needs)
     returns-2)

@@ -36,16 +36,10 @@ find-requires c κs =
 
 returns : tie.Need-returns
 returns c =
-    let s = c .before .before .before .before .before .before .before .before in
-    let t = c .before .before .before .fit-tests in
-    refused-at (s .args .layout) (call s) _ _
-    (sym (t .ensures) ∙ ap fitReport (c .before .tested .given .1))
-
-same-length : tie.Need-same-length
-same-length c = search needs
-
-same-length-2 : tie.Need-same-length-2
-same-length-2 c = search needs
+    let s = c .before .before .before .before .before .before .before .before .before in
+    let t = c .before .before .before .before .fit-tests in
+    rw (c .refuse .ensures) (refused-at (s .args .layout) (call s) _ _
+    (sym (t .ensures) ∙ ap fitReport (c .before .before .tested .given .1)))
 
 returns-2 : tie.Need-returns-2
 returns-2 c =
@@ -59,9 +53,10 @@ fit-at-spec =
     (tie.spec
     fit-tests-requires
     enum-known-tested
+    (λ c κs. search needs)
     enum-told
     find-requires
     returns
-    same-length
-    same-length-2
+    (λ c. search needs)
+    (λ c. search needs)
     returns-2)

@@ -1,119 +1,109 @@
 -- `decomposition::fit_tests` meets its contract. By the tests in their order.
+use mathlib.Core.Bool.{true}
 use mathlib.Core.List.{[], _++_}
-use mathlib.Core.Path.{_∙_, _≡_, ap, ap₂, sym}
+use mathlib.Core.Path.{_∙_, _≡_, ap, ap₂, refl, sym}
 use Prim.Native.Nat.{_+_, ℕ}
 use native.Mathlib.Omega.{arith}
+use lib.ListN.{length}
 use borrow.Author.Needs.{needs}
-use borrow.Author.Tests.{eq-eqb, ne-eqb}
 use Rattle.refusal.specs.Outcome.{done, refused}
-use Rattle.decomposition.specs.Fit.{fitTests}
 use Rattle.refusal.specs.Large.{testBelow}
-use Rattle.decomposition.proofs.Sizes.{unknowns-few}
+use Rattle.refusal.proofs.Outcome.{test-fails, test-passes}
 use Rattle.refusal.proofs.Large.{both-pass, first-fails, large-within, second-fails}
-use Rattle.decomposition.proofs.Tests.{lengths-passed}
+use Rattle.decomposition.specs.Fit.{fitLengths, fitTests}
+use Rattle.decomposition.proofs.Sizes.{unknowns-few}
+use Rattle.decomposition.proofs.Tests.{fit-lengths}
 use Rattle.decomposition.proofs.fitting.fit_tests.Statement.{statement}
 use Rattle.decomposition.proofs.fitting.fit_tests.Tie as tie
 
--- where the lengths have been tested
-tested : (c : tie.Else4) → let s = c .before .before .before .before .before .before .before .before .before .before in
-    fitTests (s .args .layout) (s .args .table .now) (s .args .basis .now) (s .args .work) (s .args .out)
-    ≡ testBelow (s .args .layout .inputs) 0 (s .args .table .now ++ s .args .basis .now) (done [])
-tested c =
-    let s = c .before .before .before .before .before .before .before .before .before .before in
-    lengths-passed (s .args .layout) (s .args .table .now) (s .args .basis .now) (s .args .work) (s .args .out)
-    (c .before .before .before .before .before .before .if1 .left) (c .before .before .before .before .if2 .left) (c .before .before .if3 .left)
-    (c .if4 .left)
+-- the start, as seen where the lengths have been tested
+abbrev start : tie.Else1 → tie.Start
+start c = c .before .before .before .before
+
+-- the lengths are right
+lengths-right : (c : tie.Else1) → let a = start c .args in
+    fitLengths (a .layout) (length (a .table .now)) (length (a .basis .now)) (a .work) (a .out) ≡ true
+lengths-right c = test-passes (c .before .lengths-fit .ensures) (c .if1 .left)
+
+-- so the entries are left to test
+tested : (c : tie.Else1) → let a = start c .args in
+    fitTests (a .layout) (a .table .now) (a .basis .now) (a .work) (a .out)
+    ≡ testBelow (a .layout .inputs) 0 (a .table .now ++ a .basis .now) (done [])
+tested c = rw (lengths-right c) refl
+
+lengths-fit-requires : tie.Need-lengths-fit-requires
+lengths-fit-requires c κs = search needs
 
 returns : tie.Need-returns
-returns c = simp (ne-eqb _ _ (c .if1 .taken))
-
-returns-2 : tie.Need-returns-2
-returns-2 c = simp (eq-eqb _ _ (c .before .before .if1 .left), ne-eqb _ _ (c .if2 .taken))
-
-returns-3 : tie.Need-returns-3
-returns-3 c = simp (eq-eqb _ _ (c .before .before .before .before .if1 .left), eq-eqb _ _ (c .before .before .if2 .left), ne-eqb _ _ (c .if3 .taken))
-
-returns-4 : tie.Need-returns-4
-returns-4 c =
-    simp (
-      eq-eqb _ _ (c .before .before .before .before .before .before .if1 .left),
-      eq-eqb _ _ (c .before .before .before .before .if2 .left),
-      eq-eqb _ _ (c .before .before .if3 .left),
-      ne-eqb _ _ (c .if4 .taken),
-    )
+returns c = c .refuse .ensures ∙ rw (test-fails (c .before .before .lengths-fit .ensures) (c .before .if1 .taken)) refl
 
 cast-first-large : tie.Need-cast-first-large
 cast-first-large c = search needs
 
-first-large-requires : tie.Need-first-large-requires
-first-large-requires c κs = search needs
-
-returns-5 : tie.Need-returns-5
-returns-5 c =
-    let d = c .before .before .before in
-    let s = d .before .before .before .before .before .before .before .before .before .before in
-    let L = s .args .layout in
-    let i = c .before .first-large in
-    ap (refused 3) (i .ensures)
-    ∙ sym (tested d ∙ first-fails (L .inputs) (s .args .table .now) (s .args .basis .now) (done []) (omega (arith, i .ensures, c .if5 .taken)))
+returns-2 : tie.Need-returns-2
+returns-2 c =
+    let d = c .before .before .before .before in
+    let a = start d .args in
+    let i = c .before .before .first-large in
+    c .refuse2 .ensures
+    ∙ ap (refused 3) (i .ensures)
+    ∙ sym (tested d ∙ first-fails (a .layout .inputs) (a .table .now) (a .basis .now) (done []) (omega (arith, i .ensures, c .before .if2 .taken)))
 
 cast-first-large-2 : tie.Need-cast-first-large-2
 cast-first-large-2 c = search needs
 
-first-large-requires-2 : tie.Need-first-large-requires-2
-first-large-requires-2 c κs = search needs
-
-add-t12 : tie.Need-add-t12
-add-t12 c =
+add-refuse : tie.Need-add-refuse
+add-refuse c =
     let d = c .before .before .before .before .before .before in
-    let s = d .before .before .before .before .before .before .before .before .before .before in
+    let s = start d in
     let L = s .args .layout in
+    let h = fit-lengths _ _ _ _ _ (lengths-right d) in
     omega (
       arith,
       c .before .before .before .before .first-large .ensures,
       c .before .first-large2 .ensures,
       large-within (L .inputs) (s .args .table .now),
       large-within (L .inputs) (s .args .basis .now),
-      d .before .before .before .before .before .before .if1 .left,
-      d .before .before .before .before .if2 .left,
+      h .0,
+      h .1,
       s .pre .byte,
       s .pre .basis,
       unknowns-few (s .pre),
     )
 
-returns-6 : tie.Need-returns-6
-returns-6 c =
-    let d = c .before .before .before .before .before .before in
-    let s = d .before .before .before .before .before .before .before .before .before .before in
-    let L = s .args .layout in
-    let i = c .before .before .before .before .first-large in
-    let j = c .before .first-large2 in
-    ap₂ (λ (x y : ℕ). refused 3 (x + y)) (i .ensures) (j .ensures)
-    ∙ sym (tested d ∙ second-fails (L .inputs) (s .args .table .now) (s .args .basis .now) (done [])
-    (omega (arith, i .ensures, c .before .before .before .if5 .left)) (omega (arith, j .ensures, c .if6 .taken)))
+returns-3 : tie.Need-returns-3
+returns-3 c =
+    let d = c .before .before .before .before .before .before .before in
+    let a = start d .args in
+    let i = c .before .before .before .before .before .first-large in
+    let j = c .before .before .first-large2 in
+    c .refuse3 .ensures
+    ∙ ap₂ (λ (x y : ℕ). refused 3 (x + y)) (i .ensures) (j .ensures)
+    ∙ sym (tested d ∙ second-fails (a .layout .inputs) (a .table .now) (a .basis .now) (done [])
+    (omega (arith, i .ensures, c .before .before .before .before .if2 .left)) (omega (arith, j .ensures, c .before .if3 .taken)))
 
-returns-7 : tie.Need-returns-7
-returns-7 c =
+returns-4 : tie.Need-returns-4
+returns-4 c =
     let d = c .before .before .before .before .before .before in
-    let s = d .before .before .before .before .before .before .before .before .before .before in
-    let L = s .args .layout in
-    sym (tested d ∙ both-pass (L .inputs) (s .args .table .now) (s .args .basis .now) (done [])
-    (omega (arith, c .before .before .before .before .first-large .ensures, c .before .before .before .if5 .left))
-    (omega (arith, c .before .first-large2 .ensures, c .if6 .left)))
+    let a = start d .args in
+    sym (tested d ∙ both-pass (a .layout .inputs) (a .table .now) (a .basis .now) (done [])
+    (omega (arith, c .before .before .before .before .first-large .ensures, c .before .before .before .if2 .left))
+    (omega (arith, c .before .first-large2 .ensures, c .if3 .left)))
 
 pub fit-tests-spec : {M : Type 1} → statement M
 fit-tests-spec =
     tie.close
     (tie.spec
+    lengths-fit-requires
+    (λ c κs. search needs)
     returns
-    returns-2
-    returns-3
-    returns-4
     cast-first-large
-    first-large-requires
-    returns-5
+    (λ c κs. search needs)
+    (λ c κs. search needs)
+    returns-2
     cast-first-large-2
-    first-large-requires-2
-    add-t12
-    returns-6
-    returns-7)
+    (λ c κs. search needs)
+    add-refuse
+    (λ c κs. search needs)
+    returns-3
+    returns-4)

@@ -1,5 +1,5 @@
 -- `decomposition::house_fit` meets its contract: a fit over the constant, which is the house basis.
-use mathlib.Core.Path.{refl, ap}
+use mathlib.Core.Path.{refl, ap, sym, _∙_}
 use borrow.Author.Needs.{needs}
 use Rattle.decomposition.specs.Fit.{fitReport, houseBasis, houseCall}
 use Rattle.decomposition.proofs.Ready.{fit-at-width}
@@ -23,27 +23,15 @@ enum-known-answer c = search needs
 enum-told : tie.Need-enum-told
 enum-told c = search needs
 
-same-length : tie.Need-same-length
-same-length c = search needs
-
-same-length-2 : tie.Need-same-length-2
-same-length-2 c = search needs
-
 returns : tie.Need-returns
 unfolding houseBasis
 returns c =
-    let s = c .before .before .before .before .before .before .before .before .before .before .before .before .before .before .before in
-    let f = c .before .before .before .before .before .before .before in
+    let s = c .before .before .before .before .before .before .before .before .before .before .before .before .before .before .before .before in
+    let f = c .before .before .before .before .before .before .before .before in
     let call = houseCall (s .args .table .now) (s .args .work .now) (s .args .out .now) in
-    fit-end-as 4 call _ (ap fitReport (c .before .answer .given .1))
+    fit-end-as 4 call _ (ap fitReport (c .before .before .answer .given .1) ∙ sym (c .refuse .ensures))
     (fit-at-width (f .before .before .before .before .layout-of .result) call 4 refl (f .before .before .before .before .layout-of .ensures) _
     (f .fit-at .ensures))
-
-same-length-3 : tie.Need-same-length-3
-same-length-3 c = search needs
-
-same-length-4 : tie.Need-same-length-4
-same-length-4 c = search needs
 
 returns-2 : tie.Need-returns-2
 unfolding houseBasis
@@ -63,10 +51,11 @@ house-fit-spec =
     slice-aggregate-fit-at
     fit-at-requires
     enum-known-answer
+    (λ c κs. search needs)
     enum-told
-    same-length
-    same-length-2
+    (λ c. search needs)
+    (λ c. search needs)
     returns
-    same-length-3
-    same-length-4
+    (λ c. search needs)
+    (λ c. search needs)
     returns-2)

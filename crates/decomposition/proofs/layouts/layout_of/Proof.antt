@@ -1,9 +1,8 @@
 -- `decomposition::layout_of` meets its contract: the numbers of the two layouts are those that the definition gives.
-use mathlib.Core.Logic.{⊎-elim}
-use mathlib.Core.Path.{refl, _≡_}
+use mathlib.Core.Path.{refl}
 use Rattle.field.proofs.Polynomial.{length-exponents-4, length-exponents-6}
 use Rattle.decomposition.specs.Layout.{termsOf, sized, layout}
-use Rattle.decomposition.proofs.Sizes.{known-cases}
+use Rattle.decomposition.proofs.Sizes.{known-6}
 use Rattle.decomposition.proofs.layouts.layout_of.Statement.{statement}
 use Rattle.decomposition.proofs.layouts.layout_of.Tie as tie
 
@@ -13,9 +12,7 @@ returns c = rw (c .if1 .taken, length-exponents-4) refl
 
 returns-2 : tie.Need-returns-2
 unfolding layout sized termsOf
-returns-2 c =
-    let e : c .before .args .width ≡ 6 = ⊎-elim (λ e. absurd (c .if1 .left e)) (λ e. e) (known-cases (c .before .args .width) (c .before .pre)) in
-    rw (e, length-exponents-6) refl
+returns-2 c = rw (known-6 _ (c .before .pre) (c .if1 .left), length-exponents-6) refl
 
 pub layout-of-spec : {M : Type 1} → statement M
 layout-of-spec = tie.close (tie.spec returns returns-2)

@@ -23,7 +23,7 @@ width-right c = test-passes (c .before .known .ensures) (c .if3 .left)
 
 returns : tie.Need-returns
 unfolding readOutcome
-returns c = simp (lt-leb _ _ (c .if1 .taken))
+returns c = c .refuse .ensures ∙ simp (lt-leb _ _ (c .before .if1 .taken))
 
 marked-requires : tie.Need-marked-requires
 marked-requires c κs = search needs
@@ -31,9 +31,9 @@ marked-requires c κs = search needs
 returns-2 : tie.Need-returns-2
 unfolding readOutcome
 returns-2 c =
-    let r = c .before .before .before .before .args .bytes .now in
-    let m : marked r ≡ false = test-fails (c .before .marked .ensures) (c .if2 .taken) in
-    rw (le-leb 6 (length r) (c .before .before .if1 .left), m) refl
+    let r = c .before .before .before .before .before .args .bytes .now in
+    let m : marked r ≡ false = test-fails (c .before .before .marked .ensures) (c .before .if2 .taken) in
+    rw (le-leb 6 (length r) (c .before .before .before .if1 .left), m) (c .refuse2 .ensures)
 
 shared-slice-read-width : tie.Need-shared-slice-read-width
 shared-slice-read-width c = search needs
@@ -41,15 +41,12 @@ shared-slice-read-width c = search needs
 cast-width : tie.Need-cast-width
 cast-width c = omega (arith, c .shared-slice-known2 .given 5)
 
-known-requires : tie.Need-known-requires
-known-requires c κs = search needs
-
 returns-3 : tie.Need-returns-3
 unfolding readOutcome
 returns-3 c =
-    let r = c .before .before .before .before .before .before .before .args .bytes .now in
-    let k : known (getD r 5 0) ≡ false = test-fails (c .before .known .ensures) (c .if3 .taken) in
-    rw (le-leb 6 (length r) (c .before .before .before .before .before .if1 .left), right (c .before .before .before), k) refl
+    let r = c .before .before .before .before .before .before .before .before .args .bytes .now in
+    let k : known (getD r 5 0) ≡ false = test-fails (c .before .before .known .ensures) (c .before .if3 .taken) in
+    rw (le-leb 6 (length r) (c .before .before .before .before .before .before .if1 .left), right (c .before .before .before .before), k) (c .refuse3 .ensures)
 
 layout-of-requires : tie.Need-layout-of-requires
 layout-of-requires c κs = width-right c
@@ -80,12 +77,15 @@ pub read-spec : {M : Type 1} → statement M
 read-spec =
     tie.close
     (tie.spec
+    (λ c κs. search needs)
     returns
     marked-requires
+    (λ c κs. search needs)
     returns-2
     shared-slice-read-width
     cast-width
-    known-requires
+    (λ c κs. search needs)
+    (λ c κs. search needs)
     returns-3
     layout-of-requires
     read-at-requires

@@ -21,7 +21,7 @@ found c =
     c .first-large .ensures ∙ ap (firstLarge (s .args .layout .inputs)) (whole-part 6 (s .args .bytes .now))
 
 returns : tie.Need-returns
-returns c = simp (ne-eqb _ _ (c .if1 .taken))
+returns c = c .refuse .ensures ∙ simp (ne-eqb _ _ (c .before .if1 .taken))
 
 cast-first-large : tie.Need-cast-first-large
 cast-first-large c = search needs
@@ -35,24 +35,21 @@ part-first-large-start c = search needs
 part-first-large-end : tie.Need-part-first-large-end
 part-first-large-end c = search needs
 
-first-large-requires : tie.Need-first-large-requires
-first-large-requires c κs = search needs
-
 sub-if2 : tie.Need-sub-if2
 sub-if2 c = search needs
 
-add-t11 : tie.Need-add-t11
-add-t11 c = search needs
+add-refuse : tie.Need-add-refuse
+add-refuse c = search needs
 
 returns-2 : tie.Need-returns-2
 returns-2 c =
-    let s = c .before .before .before .before .before .before .before in
+    let s = c .before .before .before .before .before .before .before .before in
     let r = s .args .bytes .now in
     let L = s .args .layout in
-    let e = found (c .before) in
-    rw (eq-eqb (length r) (L .size) (c .before .before .before .before .if1 .left))
-    (ap (λ (k : ℕ). refused 3 (6 + k)) e
-    ∙ sym (below-fails (L .inputs) 6 (drop 6 r) (done (L .width ∷ [])) (omega (arith, e, c .if2 .taken, length-drop 6 r))))
+    let e = found (c .before .before) in
+    rw (eq-eqb (length r) (L .size) (c .before .before .before .before .before .if1 .left))
+    (c .refuse2 .ensures ∙ ap (λ (k : ℕ). refused 3 (6 + k)) e
+    ∙ sym (below-fails (L .inputs) 6 (drop 6 r) (done (L .width ∷ [])) (omega (arith, e, c .before .if2 .taken, length-drop 6 r))))
 
 returns-3 : tie.Need-returns-3
 returns-3 c =
@@ -66,13 +63,15 @@ pub read-at-spec : {M : Type 1} → statement M
 read-at-spec =
     tie.close
     (tie.spec
+    (λ c κs. search needs)
     returns
     cast-first-large
     sub-first-large
     part-first-large-start
     part-first-large-end
-    first-large-requires
+    (λ c κs. search needs)
     sub-if2
-    add-t11
+    add-refuse
+    (λ c κs. search needs)
     returns-2
     returns-3)

@@ -4,9 +4,9 @@ use Prim.Native.Nat.{ℕ, _+_, _-_, _*_, _^_, _≤_, _<_}
 use native.Mathlib.Numerals.{add-one}
 use native.Mathlib.Omega.{arith}
 use borrow.Author.Needs.{needs}
-use Rattle.present.specs.Bytes.{fromBytes}
-use Rattle.layers.specs.State.{bytesAt}
-use Rattle.layers.proofs.Number.{number-none, number-more, byte-more-lt, bytes-fit}
+use Rattle.steps.specs.Bytes.{fromBytes}
+use Rattle.steps.specs.ShareBytes.{bytesAt}
+use Rattle.steps.proofs.Number.{number-none, number-more, byte-more-lt, bytes-fit}
 use Rattle.layers.proofs.bytes.number.Statement.{statement}
 use Rattle.layers.proofs.bytes.number.Tie as tie
 

@@ -6,9 +6,9 @@ use native.Mathlib.Omega.{arith}
 use borrow.Author.Needs.{needs}
 use lib.ListN.{length, length-set}
 use lib.Seq.{paste, paste-zero, paste-suc}
-use Rattle.present.specs.Bytes.{toBytes}
-use Rattle.present.proofs.Bytes.{length-to-bytes}
-use Rattle.layers.proofs.Number.{getD-to-bytes}
+use Rattle.steps.specs.Bytes.{toBytes}
+use Rattle.steps.proofs.Bytes.{length-to-bytes}
+use Rattle.steps.proofs.Number.{getD-to-bytes}
 use Rattle.layers.proofs.bytes.put_number.Statement.{statement}
 use Rattle.layers.proofs.bytes.put_number.Tie as tie
 

@@ -22,9 +22,6 @@ slice-write-key c = search needs
 slice-write-key-2 : tie.Need-slice-write-key-2
 slice-write-key-2 c = simp length-set (omega arith)
 
-same-length : tie.Need-same-length
-same-length c = search needs
-
 returns : tie.Need-returns
 unfolding _⊕_
 returns c =
@@ -40,5 +37,5 @@ add-number-spec =
     slice-read-high
     slice-write-key
     slice-write-key-2
-    same-length
+    (λ c. search needs)
     returns)

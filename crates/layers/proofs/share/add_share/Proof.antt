@@ -5,7 +5,7 @@ use Rattle.xor.specs.Xor.{_⊕_}
 use Rattle.xor.specs.Sum.{Small}
 use Rattle.xor.proofs.Xor.{⊕-lt}
 use Rattle.present.specs.Present as present
-use Rattle.layers.specs.State.{shareAt}
+use Rattle.steps.specs.ShareBytes.{shareAt}
 use Rattle.layers.proofs.State.{changed-put, round-key-first}
 use borrow.Author.Needs.{needs}
 use Rattle.layers.proofs.share.add_share.Statement.{statement}
@@ -25,9 +25,6 @@ number-requires-2 c κs = search needs
 
 put-number-requires : tie.Need-put-number-requires
 put-number-requires c κs = search needs
-
-same-length : tie.Need-same-length
-same-length c = search needs
 
 returns : tie.Need-returns
 unfolding shareAt _⊕_
@@ -50,5 +47,5 @@ add-share-spec =
     number-requires
     number-requires-2
     put-number-requires
-    same-length
+    (λ c. search needs)
     returns)

@@ -1,7 +1,7 @@
 -- `share::permute_share` meets its contract.
 use mathlib.Core.Path.{_≡_, ap, _∙_}
 use Rattle.present.specs.Present as present
-use Rattle.layers.specs.State.{shareAt}
+use Rattle.steps.specs.ShareBytes.{shareAt}
 use Rattle.layers.proofs.State.{changed-put}
 use borrow.Author.Needs.{needs}
 use Rattle.layers.proofs.share.permute_share.Statement.{statement}
@@ -13,14 +13,8 @@ mul-at c = search needs
 number-requires : tie.Need-number-requires
 number-requires c κs = search needs
 
-permute-requires : tie.Need-permute-requires
-permute-requires c κs = search needs
-
 put-number-requires : tie.Need-put-number-requires
 put-number-requires c κs = search needs
-
-same-length : tie.Need-same-length
-same-length c = search needs
 
 returns : tie.Need-returns
 unfolding shareAt
@@ -34,4 +28,4 @@ returns c =
 pub permute-share-spec : {M : Type 1} → statement M
 permute-share-spec =
     tie.close
-    (tie.spec mul-at number-requires permute-requires put-number-requires same-length returns)
+    (tie.spec mul-at number-requires (λ c κs. search needs) put-number-requires (λ c. search needs) returns)

@@ -39,9 +39,6 @@ shl-l c = search needs
 slice-write-l : tie.Need-slice-write-l
 slice-write-l c = search needs
 
-same-length : tie.Need-same-length
-same-length c = search needs
-
 returns : tie.Need-returns
 unfolding byteWith _⊕_
 returns c =
@@ -63,5 +60,5 @@ replace-spec =
     cast-l
     shl-l
     slice-write-l
-    same-length
+    (λ c. search needs)
     returns)

@@ -2,7 +2,7 @@
 use mathlib.Core.Path.{_≡_, sym, ap₂, _∙_}
 use Prim.Native.Nat.{ℕ, _+_, _*_, _/_, _%_, _^_}
 use native.Mathlib.Omega.{arith}
-use Rattle.layers.specs.State.{shareAt}
+use Rattle.steps.specs.ShareBytes.{shareAt}
 use Rattle.layers.proofs.State.{share-parts, changed-parts, rotated-parts, rotated-lt}
 use borrow.Author.Needs.{needs}
 use Rattle.layers.proofs.share.rotate_share.Statement.{statement}
@@ -44,9 +44,6 @@ add-put-number-3 c = search needs
 put-number-requires-2 : tie.Need-put-number-requires-2
 put-number-requires-2 c κs = search needs
 
-same-length : tie.Need-same-length
-same-length c = search needs
-
 returns : tie.Need-returns
 returns c =
     let a = c .before .before .before .before .before .before .before .before .before .before .before .before .before .args in
@@ -74,5 +71,5 @@ rotate-share-spec =
     put-number-requires
     add-put-number-3
     put-number-requires-2
-    same-length
+    (λ c. search needs)
     returns)

@@ -5,9 +5,9 @@ use native.Mathlib.Omega.{arith}
 use Rattle.xor.specs.Xor.{_⊕_}
 use Rattle.present.specs.Present as present
 use Rattle.present.proofs.Numbers.{sound80, round-key-linear}
-use Rattle.present.proofs.Sharing.{sum-linear}
-use Rattle.layers.specs.State.{shareAt, sharesOf, sharing}
-use Rattle.layers.proofs.View.{map-given, wise-given, Turned, turned-none, turned-more, turned-all}
+use Rattle.steps.proofs.ShareWise.{sum-linear}
+use Rattle.steps.specs.ShareBytes.{shareAt, sharesOf, sharing}
+use Rattle.steps.proofs.View.{map-given, wise-given, Turned, turned-none, turned-more, turned-all}
 use borrow.Author.Needs.{needs}
 use Rattle.layers.proofs.shares.add_round_keys.Statement.{statement}
 use Rattle.layers.proofs.shares.add_round_keys.Tie as tie

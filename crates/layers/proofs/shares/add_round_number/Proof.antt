@@ -1,7 +1,7 @@
 -- `shares::add_round_number` meets its contract.
 use Rattle.present.specs.Present as present
-use Rattle.layers.proofs.Past.{changed-kept}
-use Rattle.layers.proofs.View.{changed-alone}
+use Rattle.steps.proofs.Past.{changed-kept}
+use Rattle.steps.proofs.View.{changed-alone}
 use borrow.Author.Needs.{needs}
 use Rattle.layers.proofs.shares.add_round_number.Statement.{statement}
 use Rattle.layers.proofs.shares.add_round_number.Tie as tie

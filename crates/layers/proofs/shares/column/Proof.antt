@@ -6,9 +6,9 @@ use Rattle.steps.specs.Sharing.{Filled}
 use Rattle.steps.proofs.Sharing.{filled-none, filled-set}
 use Rattle.present.specs.Present as present
 use Rattle.present.proofs.Numbers.{nibble-linear}
-use Rattle.layers.specs.State.{shareAt, sharesOf, sharing}
-use Rattle.layers.proofs.State.{share-before}
-use Rattle.layers.proofs.View.{map-given, filled-given}
+use Rattle.steps.specs.ShareBytes.{shareAt, sharesOf, sharing}
+use Rattle.steps.proofs.Past.{share-before}
+use Rattle.steps.proofs.View.{map-given, filled-given}
 use borrow.Author.Needs.{needs}
 use Rattle.layers.proofs.shares.column.Statement.{statement}
 use Rattle.layers.proofs.shares.column.Tie as tie

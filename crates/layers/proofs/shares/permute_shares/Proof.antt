@@ -4,8 +4,8 @@ use Prim.Native.Nat.{_-_}
 use native.Mathlib.Omega.{arith}
 use Rattle.present.specs.Present as present
 use Rattle.present.proofs.Numbers.{permute-linear}
-use Rattle.layers.specs.State.{shareAt, sharesOf, sharing}
-use Rattle.layers.proofs.View.{map-given, Turned, turned-none, turned-more, turned-all}
+use Rattle.steps.specs.ShareBytes.{shareAt, sharesOf, sharing}
+use Rattle.steps.proofs.View.{map-given, Turned, turned-none, turned-more, turned-all}
 use borrow.Author.Needs.{needs}
 use Rattle.layers.proofs.shares.permute_shares.Statement.{statement}
 use Rattle.layers.proofs.shares.permute_shares.Tie as tie

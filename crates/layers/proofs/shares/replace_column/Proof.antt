@@ -7,11 +7,11 @@ use lib.ListN.{length}
 use Rattle.steps.specs.Fill.{tabulate}
 use Rattle.steps.specs.Sharing.{share}
 use Rattle.present.specs.Present as present
-use Rattle.present.specs.Masked.{shareWise, held}
+use Rattle.steps.specs.Sharing.{shareWise, held}
 use Rattle.present.proofs.Numbers.{replace-linear}
-use Rattle.layers.specs.State.{shareAt, sharesOf, sharing}
-use Rattle.layers.proofs.State.{share-before}
-use Rattle.layers.proofs.View.{is-given, wise-given, Turned, turned-none, turned-more, turned-all}
+use Rattle.steps.specs.ShareBytes.{shareAt, sharesOf, sharing}
+use Rattle.steps.proofs.Past.{share-before}
+use Rattle.steps.proofs.View.{is-given, wise-given, Turned, turned-none, turned-more, turned-all}
 use borrow.Author.Needs.{needs}
 use Rattle.layers.proofs.shares.replace_column.Statement.{statement}
 use Rattle.layers.proofs.shares.replace_column.Tie as tie

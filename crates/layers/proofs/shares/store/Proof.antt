@@ -5,7 +5,7 @@ use native.Mathlib.Omega.{arith}
 use lib.ListN.{take}
 use lib.Seq.{length-take-le}
 use Rattle.xor.specs.Sum.{Small}
-use Rattle.layers.proofs.Stored.{bytes-of-shares, pasted-whole}
+use Rattle.steps.proofs.Stored.{bytes-of-shares, pasted-whole}
 use borrow.Author.Needs.{needs}
 use Rattle.layers.proofs.shares.store.Statement.{statement}
 use Rattle.layers.proofs.shares.store.Tie as tie
@@ -19,9 +19,6 @@ slice-aggregate-copy c = let a = c .before .before .before .args in sym (length-
 copy-requires : tie.Need-copy-requires
 copy-requires c κs = let a = c .before .before .before .before .args in omega (arith, length-take-le (8 * a .s) (a .block .now) (search needs))
 
-same-length : tie.Need-same-length
-same-length c = search needs
-
 returns : tie.Need-returns
 returns c =
     let a = c .before .before .before .before .before .before .before .args in
@@ -32,4 +29,4 @@ returns c =
     ∙ sym (bytes-of-shares 8 (a .block .now) small (a .s) (search needs))
 
 pub store-spec : {M : Type 1} → statement M
-store-spec = tie.close (tie.spec mul-n slice-aggregate-copy copy-requires same-length returns)
+store-spec = tie.close (tie.spec mul-n slice-aggregate-copy copy-requires (λ c. search needs) returns)

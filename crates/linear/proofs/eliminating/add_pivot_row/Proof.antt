@@ -42,9 +42,6 @@ add-multiple-requires c κs =
       ),
     )
 
-same-length : tie.Need-same-length
-same-length c = search needs
-
 returns : tie.Need-returns
 returns c =
     let s = c .before .before .before .before .before .before .before .before .before .before .before in
@@ -68,6 +65,6 @@ add-pivot-row-spec =
     copy-row-requires
     slice-aggregate-add-multiple
     add-multiple-requires
-    same-length
+    (λ c. search needs)
     returns
     returns-2)

@@ -27,9 +27,6 @@ clear-rows-requires c κs =
     let w = c .before .before .before .copy-row in
     (s .pre .0, (s .pre .1 .0, s .pre .1 .1, s .pre .1 .2, omega (arith, w .kept .1 .1 .1 .0, s .pre .1 .3), w .ensures))
 
-same-length : tie.Need-same-length
-same-length c = search needs
-
 returns : tie.Need-returns
 returns c = search needs
 
@@ -42,5 +39,5 @@ clear-spec =
     copy-row-requires
     slice-aggregate-clear-rows
     clear-rows-requires
-    same-length
+    (λ c. search needs)
     returns)

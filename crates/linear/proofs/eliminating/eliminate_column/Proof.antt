@@ -60,9 +60,6 @@ scaled c =
 find-pivot-requires : tie.Need-find-pivot-requires
 find-pivot-requires c κs = search needs
 
-same-length : tie.Need-same-length
-same-length c = search needs
-
 returns : tie.Need-returns
 returns c =
     let s = c .before .before .before .before in
@@ -120,9 +117,6 @@ clear-requires c κs =
 add-result : tie.Need-add-result
 add-result c = search needs
 
-same-length-2 : tie.Need-same-length-2
-same-length-2 c = search needs
-
 returns-2 : tie.Need-returns-2
 returns-2 c =
     let d = c .before .before in
@@ -140,7 +134,7 @@ eliminate-column-spec =
     tie.close
     (tie.spec
     find-pivot-requires
-    same-length
+    (λ c. search needs)
     returns
     add-pivot-row-requires
     mul-a
@@ -150,5 +144,5 @@ eliminate-column-spec =
     scale-row-requires
     clear-requires
     add-result
-    same-length-2
+    (λ c. search needs)
     returns-2)

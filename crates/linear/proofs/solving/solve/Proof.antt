@@ -18,9 +18,6 @@ add-find-pivot c = search needs
 find-pivot-requires : tie.Need-find-pivot-requires
 find-pivot-requires c κs = search needs
 
-same-length : tie.Need-same-length
-same-length c = search needs
-
 returns : tie.Need-returns
 returns c =
     let s = c .before .before .before .before .before .before .before .before .before in
@@ -38,12 +35,6 @@ returns c =
 
 read-off-requires : tie.Need-read-off-requires
 read-off-requires c κs = search needs
-
-same-length-2 : tie.Need-same-length-2
-same-length-2 c = search needs
-
-same-length-3 : tie.Need-same-length-3
-same-length-3 c = search needs
 
 returns-2 : tie.Need-returns-2
 returns-2 c =
@@ -66,9 +57,9 @@ solve-spec =
     eliminate-requires
     add-find-pivot
     find-pivot-requires
-    same-length
+    (λ c. search needs)
     returns
     read-off-requires
-    same-length-2
-    same-length-3
+    (λ c. search needs)
+    (λ c. search needs)
     returns-2)

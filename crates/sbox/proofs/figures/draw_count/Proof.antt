@@ -1,7 +1,7 @@
 -- `draw_count` meets its contract.
 use native.Mathlib.Omega.{arith}
 use borrow.Author.Needs.{needs}
-use Rattle.field.proofs.Turns.{width-6}
+use Rattle.decomposition.proofs.Sizes.{known-6}
 use Rattle.sbox.specs.Figures.{sboxDraws}
 use Rattle.sbox.proofs.Calls.{few-pairs}
 use Rattle.sbox.proofs.figures.draw_count.Statement.{statement}
@@ -28,7 +28,7 @@ returns c = rw (c .if1 .taken)
 
 returns-2 : tie.Need-returns-2
 unfolding sboxDraws
-returns-2 c = rw (width-6 _ (c .before .pre .0) (c .if1 .left))
+returns-2 c = rw (known-6 _ (c .before .pre .0) (c .if1 .left))
 
 pub draw-count-spec : {M : Type 1} → statement M
 draw-count-spec =

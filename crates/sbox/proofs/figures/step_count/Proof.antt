@@ -1,7 +1,7 @@
 -- `step_count` meets its contract.
 use native.Mathlib.Omega.{arith}
 use borrow.Author.Needs.{needs}
-use Rattle.field.proofs.Turns.{width-6}
+use Rattle.decomposition.proofs.Sizes.{known-6}
 use Rattle.sbox.specs.Figures.{sboxSteps}
 use Rattle.sbox.proofs.Calls.{few-pairs}
 use Rattle.sbox.proofs.figures.step_count.Statement.{statement}
@@ -43,7 +43,7 @@ returns c = rw (c .if1 .taken)
 
 returns-2 : tie.Need-returns-2
 unfolding sboxSteps
-returns-2 c = rw (width-6 _ (c .before .pre .0) (c .if1 .left))
+returns-2 c = rw (known-6 _ (c .before .pre .0) (c .if1 .left))
 
 pub step-count-spec : {M : Type 1} → statement M
 step-count-spec =

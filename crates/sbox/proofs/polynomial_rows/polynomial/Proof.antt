@@ -1,22 +1,22 @@
 -- `polynomial` meets its contract: a loop over the shares.
-use mathlib.Core.Path.{refl}
 use Prim.Native.Nat.{_-_}
 use native.Mathlib.Omega.{arith}
 use borrow.Author.Needs.{needs}
-use Rattle.steps.specs.Tape.{elements}
-use Rattle.steps.specs.Loop.{Going, each}
-use Rattle.steps.proofs.Loop.{going, going-ready, going-on, gone, each-turn, each-end}
+use mathlib.Core.List.{[]}
+use Rattle.steps.specs.Machine.{atStep}
+use Rattle.steps.specs.Loop.{Going}
+use Rattle.steps.proofs.Loop.{going, going-ready, going-on, gone}
 use Rattle.sbox.specs.TableSteps as spec
 use Rattle.sbox.proofs.polynomial_rows.polynomial.Statement.{statement}
 use Rattle.sbox.proofs.polynomial_rows.polynomial.Tie as tie
 
 abbrev Inv-loop : tie.InvT-loop
-Inv-loop width k s rec j random watch values₀ t₀ p z n₀ i₀ values t n i =
-    Going (λ i. 0) (λ i. 0) (each (each 2 k 0) s) (elements width random) watch (spec.polynomialShare width k rec p z) 0 s t₀ n₀ values₀
-    i t n values
+Inv-loop width k s rec j watch values₀ t₀ n p z next₀ i₀ values t next i =
+    Going [] watch (spec.polynomialShare width k rec p z) 0 s t₀ (atStep n) values₀
+    i t (atStep next) values
 
 abbrev μ-loop : tie.MeasureT-loop
-μ-loop width k s rec j random watch values₀ t₀ p z n₀ i₀ values t n i = s - i
+μ-loop width k s rec j watch values₀ t₀ n p z next₀ i₀ values t next i = s - i
 
 add-p : tie.Need-add-p Inv-loop μ-loop
 add-p c = search needs
@@ -34,9 +34,10 @@ loop-holds : tie.Need-loop-holds Inv-loop μ-loop
 loop-holds c = search going
 
 polynomial-share-requires : tie.Need-polynomial-share-requires Inv-loop μ-loop
+unfolding spec.polynomialRow
 polynomial-share-requires c κs =
     let h = c .before .before .loop-test .taken in
-    (search needs, (omega arith, going-ready (c .before .before .before .loop .inv) (search needs) refl refl (each-turn _ h)))
+    (search needs, (omega arith, going-ready (c .before .before .before .loop .inv) (search needs) h))
 
 add-i : tie.Need-add-i Inv-loop μ-loop
 add-i c = search needs
@@ -47,7 +48,7 @@ loop-less c = search needs
 loop-again : tie.Need-loop-again Inv-loop μ-loop
 loop-again c =
     let h = c .before .before .before .before .before .loop-test .taken in
-    going-on (c .before .before .before .before .before .before .loop .inv) h (c .before .before .polynomial-share .ensures) (search needs) refl refl (each-turn _ h)
+    going-on (c .before .before .before .before .before .before .loop .inv) h (c .before .before .polynomial-share .ensures) (search needs)
 
 same-length : tie.Need-same-length Inv-loop μ-loop
 same-length c = search needs
@@ -56,7 +57,7 @@ returns : tie.Need-returns Inv-loop μ-loop
 unfolding spec.polynomialRow
 returns c =
     let h = c .loop-test .left in
-    gone (c .before .loop .inv) h refl refl (each-end _ h)
+    gone (c .before .loop .inv) h
 
 pub polynomial-spec : {M : Type 1} → statement M
 polynomial-spec =

@@ -1,24 +1,23 @@
 -- `polynomials` meets its contract: a loop over the polynomials.
-use mathlib.Core.Path.{refl}
 use Prim.Native.Nat.{_-_}
 use native.Mathlib.Omega.{arith}
 use borrow.Author.Needs.{needs}
-use Rattle.steps.specs.Tape.{elements}
-use Rattle.steps.specs.Loop.{Going, each}
-use Rattle.steps.proofs.Loop.{going, going-ready, going-on, gone, each-turn, each-end}
+use mathlib.Core.List.{[]}
+use Rattle.steps.specs.Machine.{atStep}
+use Rattle.steps.specs.Loop.{Going}
+use Rattle.steps.proofs.Loop.{going, going-ready, going-on, gone}
 use Rattle.sbox.specs.TableSteps as spec
-use Rattle.sbox.specs.TableCounts.{polynomialSteps}
 use Rattle.sbox.proofs.TableRuns.{place-within}
 use Rattle.sbox.proofs.polynomial_rows.polynomials.Statement.{statement}
 use Rattle.sbox.proofs.polynomial_rows.polynomials.Tie as tie
 
 abbrev Inv-loop : tie.InvT-loop
-Inv-loop width k s rec count random watch values₀ t₀ n₀ j₀ values t n j =
-    Going (λ j. 0) (λ j. 0) (each (polynomialSteps k s) count) (elements width random) watch (spec.polynomialRow width k s rec) 0 count t₀ n₀ values₀
-    j t n values
+Inv-loop width k s rec count watch values₀ t₀ n next₀ j₀ values t next j =
+    Going [] watch (spec.polynomialRow width k s rec) 0 count t₀ (atStep n) values₀
+    j t (atStep next) values
 
 abbrev μ-loop : tie.MeasureT-loop
-μ-loop width k s rec count random watch values₀ t₀ n₀ j₀ values t n j = count - j
+μ-loop width k s rec count watch values₀ t₀ n next₀ j₀ values t next j = count - j
 
 loop-holds : tie.Need-loop-holds Inv-loop μ-loop
 loop-holds c = search going
@@ -29,7 +28,7 @@ polynomial-requires c κs =
       search needs,
       (
         (omega arith, omega arith, omega arith, place-within _ h (search needs)),
-        going-ready (c .before .before .before .loop .inv) (search needs) refl refl (each-turn _ h),
+        going-ready (c .before .before .before .loop .inv) (search needs) h,
       ),
     )
 
@@ -42,7 +41,7 @@ loop-less c = search needs
 loop-again : tie.Need-loop-again Inv-loop μ-loop
 loop-again c =
     let h = c .before .before .before .before .before .loop-test .taken in
-    going-on (c .before .before .before .before .before .before .loop .inv) h (c .before .before .polynomial .ensures) (search needs) refl refl (each-turn _ h)
+    going-on (c .before .before .before .before .before .before .loop .inv) h (c .before .before .polynomial .ensures) (search needs)
 
 same-length : tie.Need-same-length Inv-loop μ-loop
 same-length c = search needs
@@ -50,7 +49,7 @@ same-length c = search needs
 returns : tie.Need-returns Inv-loop μ-loop
 returns c =
     let h = c .loop-test .left in
-    gone (c .before .loop .inv) h refl refl (each-end _ h)
+    gone (c .before .loop .inv) h
 
 pub polynomials-spec : {M : Type 1} → statement M
 polynomials-spec =

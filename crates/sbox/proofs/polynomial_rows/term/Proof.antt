@@ -1,7 +1,8 @@
 -- `term` meets its contract: its steps are those of the definition.
 use borrow.Author.Needs.{needs}
+use Rattle.decomposition.proofs.Sizes.{known-width}
 use Rattle.sbox.specs.Table as table
-use Rattle.sbox.proofs.TableRuns.{term-runs}
+use Rattle.sbox.proofs.TableRuns.{term-runs, term-room}
 use Rattle.sbox.proofs.polynomial_rows.term.Statement.{statement}
 use Rattle.sbox.proofs.polynomial_rows.term.Tie as tie
 
@@ -24,26 +25,18 @@ element-copy-out-mul : tie.Need-element-copy-out-mul
 element-copy-out-mul c = search needs
 
 mul-requires : tie.Need-mul-requires
-mul-requires c κs = search needs
+mul-requires c κs = search (needs, known-width)
 
 slice-aggregate-record-all : tie.Need-slice-aggregate-record-all
 slice-aggregate-record-all c = search needs
 
 record-all-requires : tie.Need-record-all-requires
-record-all-requires c κs = search needs
-
-same-length : tie.Need-same-length
-same-length c = search needs
+record-all-requires c κs = let room = term-room _ _ _ _ _ _ _ _ (c .before .before .before .before .before .before .before .before .before .pre .1 .1) in search needs
 
 returns : tie.Need-returns
 unfolding table.cell
 returns c =
-    record {
-      runs = term-runs _ _ _ _ _ _ _ _ _ _ _ _ _ _ (search needs) (search needs) (search needs);
-      took-products = search needs;
-      took-draws = search needs;
-      took-steps = search needs;
-    }
+    record { runs = term-runs _ _ _ _ _ _ _ _ _ _ _ _ _ _ (search needs) (search needs) (search needs) }
 
 pub term-spec : {M : Type 1} → statement M
 term-spec =
@@ -58,5 +51,5 @@ term-spec =
     mul-requires
     slice-aggregate-record-all
     record-all-requires
-    same-length
+    (λ c. search needs)
     returns)

@@ -1,22 +1,22 @@
 -- `square_rows` meets its contract: a loop over the rows.
-use mathlib.Core.Path.{refl}
 use Prim.Native.Nat.{_-_}
 use native.Mathlib.Omega.{arith}
 use borrow.Author.Needs.{needs}
-use Rattle.steps.specs.Tape.{elements}
-use Rattle.steps.specs.Loop.{Going, each}
-use Rattle.steps.proofs.Loop.{going, going-ready, going-on, gone, each-turn, each-end}
+use mathlib.Core.List.{[]}
+use Rattle.steps.specs.Machine.{atStep}
+use Rattle.steps.specs.Loop.{Going}
+use Rattle.steps.proofs.Loop.{going, going-ready, going-on, gone}
 use Rattle.sbox.specs.TableSteps as spec
 use Rattle.sbox.proofs.power_rows.square_rows.Statement.{statement}
 use Rattle.sbox.proofs.power_rows.square_rows.Tie as tie
 
 abbrev Inv-loop : tie.InvT-loop
-Inv-loop width s first last random watch values₀ t₀ n₀ r₀ values t n r =
-    Going (λ r. 0) (λ r. 0) (each (each 1 s 0) last) (elements width random) watch (spec.squareRow width s) first last t₀ n₀ values₀
-    r t n values
+Inv-loop width s first last watch values₀ t₀ n next₀ r₀ values t next r =
+    Going [] watch (spec.squareRow width s) first last t₀ (atStep n) values₀
+    r t (atStep next) values
 
 abbrev μ-loop : tie.MeasureT-loop
-μ-loop width s first last random watch values₀ t₀ n₀ r₀ values t n r = last - r
+μ-loop width s first last watch values₀ t₀ n next₀ r₀ values t next r = last - r
 
 loop-holds : tie.Need-loop-holds Inv-loop μ-loop
 loop-holds c = search going
@@ -24,7 +24,7 @@ loop-holds c = search going
 square-row-requires : tie.Need-square-row-requires Inv-loop μ-loop
 square-row-requires c κs =
     let h = c .before .before .loop-test .taken in
-    (search needs, (omega arith, going-ready (c .before .before .before .loop .inv) (search needs) refl refl (each-turn _ h)))
+    (search needs, (omega arith, going-ready (c .before .before .before .loop .inv) (search needs) h))
 
 add-r : tie.Need-add-r Inv-loop μ-loop
 add-r c = search needs
@@ -35,7 +35,7 @@ loop-less c = search needs
 loop-again : tie.Need-loop-again Inv-loop μ-loop
 loop-again c =
     let h = c .before .before .before .before .before .loop-test .taken in
-    going-on (c .before .before .before .before .before .before .loop .inv) h (c .before .before .square-row .ensures) (search needs) refl refl (each-turn _ h)
+    going-on (c .before .before .before .before .before .before .loop .inv) h (c .before .before .square-row .ensures) (search needs)
 
 same-length : tie.Need-same-length Inv-loop μ-loop
 same-length c = search needs
@@ -43,7 +43,7 @@ same-length c = search needs
 returns : tie.Need-returns Inv-loop μ-loop
 returns c =
     let h = c .loop-test .left in
-    gone (c .before .loop .inv) h refl refl (each-end _ h)
+    gone (c .before .loop .inv) h
 
 pub square-rows-spec : {M : Type 1} → statement M
 square-rows-spec =

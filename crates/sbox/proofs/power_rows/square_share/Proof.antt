@@ -1,7 +1,8 @@
 -- `square_share` meets its contract: its step is that of the definition.
 use borrow.Author.Needs.{needs}
+use Rattle.decomposition.proofs.Sizes.{known-width}
 use Rattle.sbox.specs.Table as table
-use Rattle.sbox.proofs.TableRuns.{square-runs}
+use Rattle.sbox.proofs.TableRuns.{square-runs, square-room}
 use Rattle.sbox.proofs.power_rows.square_share.Statement.{statement}
 use Rattle.sbox.proofs.power_rows.square_share.Tie as tie
 
@@ -15,10 +16,10 @@ element-copy-out-x : tie.Need-element-copy-out-x
 element-copy-out-x c = search needs
 
 mul-requires : tie.Need-mul-requires
-mul-requires c κs = search needs
+mul-requires c κs = search (needs, known-width)
 
 record-requires : tie.Need-record-requires
-record-requires c κs = search needs
+record-requires c κs = let room = square-room _ _ _ _ _ (c .before .before .before .before .before .pre .1 .1) in search needs
 
 add-t : tie.Need-add-t
 add-t c = search needs
@@ -32,18 +33,10 @@ add-t-2 c = search needs
 element-write-t : tie.Need-element-write-t
 element-write-t c = search needs
 
-same-length : tie.Need-same-length
-same-length c = search needs
-
 returns : tie.Need-returns
 unfolding table.cell table.setCell
 returns c =
-    record {
-      runs = square-runs _ _ _ _ _ _ _ _ _ _ _ (search needs) (search needs) (search needs);
-      took-products = search needs;
-      took-draws = search needs;
-      took-steps = search needs;
-    }
+    record { runs = square-runs _ _ _ _ _ _ _ _ _ _ _ (search needs) (search needs) (search needs) }
 
 pub square-share-spec : {M : Type 1} → statement M
 square-share-spec =
@@ -58,5 +51,5 @@ square-share-spec =
     mul-t
     add-t-2
     element-write-t
-    same-length
+    (λ c. search needs)
     returns)

@@ -1,7 +1,7 @@
 -- `add_row` meets its contract: its step is that of the definition.
 use borrow.Author.Needs.{needs}
 use Rattle.sbox.specs.Table as table
-use Rattle.sbox.proofs.TableRuns.{add-runs}
+use Rattle.sbox.proofs.TableRuns.{add-runs, add-room}
 use Rattle.sbox.proofs.product_rows.add_row.Statement.{statement}
 use Rattle.sbox.proofs.product_rows.add_row.Tie as tie
 
@@ -15,21 +15,13 @@ element-copy-out-v : tie.Need-element-copy-out-v
 element-copy-out-v c = search needs
 
 record-requires : tie.Need-record-requires
-record-requires c κs = search needs
-
-same-length : tie.Need-same-length
-same-length c = search needs
+record-requires c κs = let room = add-room _ _ _ _ _ (c .before .before .before .before .before .pre .1) in search needs
 
 returns : tie.Need-returns
 unfolding table.cell
 returns c =
-    record {
-      runs = add-runs _ _ _ _ _ _ _ _ _ _ (search needs) (search needs);
-      took-products = search needs;
-      took-draws = search needs;
-      took-steps = search needs;
-    }
+    record { runs = add-runs _ _ _ _ _ _ _ _ _ _ (search needs) (search needs) }
 
 pub add-row-spec : {M : Type 1} → statement M
 add-row-spec =
-    tie.close (tie.spec mul-v add-v element-copy-out-v record-requires same-length returns)
+    tie.close (tie.spec mul-v add-v element-copy-out-v record-requires (λ c. search needs) returns)

@@ -1,5 +1,8 @@
 -- `multiply_rows` meets its contract: the product of two rows, put into a third.
 use borrow.Author.Needs.{needs}
+use Rattle.decomposition.proofs.Sizes.{known-width}
+use Rattle.steps.proofs.Parts.{ready-first}
+use Rattle.sbox.specs.TableSteps.{multiplyRows}
 use Rattle.sbox.proofs.TableRuns.{multiply-runs, row-part, row-long}
 use Rattle.sbox.proofs.rows.multiply_rows.Statement.{statement}
 use Rattle.sbox.proofs.rows.multiply_rows.Tie as tie
@@ -29,13 +32,15 @@ part-product-end-2 : tie.Need-part-product-end-2
 part-product-end-2 c = search needs
 
 product-requires : tie.Need-product-requires
-product-requires c κs = (search needs, ((search needs, search (needs, row-long), search (needs, row-long)), search needs))
+unfolding multiplyRows
+product-requires c κs =
+    let a = c .before .before .before .before .before .before .before .before .args in
+    let x = row-part (a .t .now) (a .x) in
+    let y = row-part (a .t .now) (a .y) in
+    (search (needs, known-width), ((search needs, search (needs, row-long), search (needs, row-long)), rw (x, y) (ready-first _ _ (c .before .before .before .before .before .before .before .before .pre .1 .1))))
 
 put-requires : tie.Need-put-requires
 put-requires c κs = search needs
-
-same-length : tie.Need-same-length
-same-length c = search needs
 
 returns : tie.Need-returns
 returns c =
@@ -43,12 +48,7 @@ returns c =
     let w = c .before .before .before .before .before .before .before .product in
     let x = row-part (a .t .now) (a .x) in
     let y = row-part (a .t .now) (a .y) in
-    record {
-      runs = multiply-runs _ _ _ _ _ _ _ _ _ _ x y (w .ensures .runs) (search needs);
-      took-products = search needs;
-      took-draws = search needs;
-      took-steps = search needs;
-    }
+    record { runs = multiply-runs _ _ _ _ _ _ _ _ _ _ x y (w .ensures .runs) (search needs) }
 
 pub multiply-rows-spec : {M : Type 1} → statement M
 multiply-rows-spec =
@@ -64,5 +64,5 @@ multiply-rows-spec =
     part-product-end-2
     product-requires
     put-requires
-    same-length
+    (λ c. search needs)
     returns)

@@ -7,7 +7,8 @@ use lib.Dec.{eqb}
 use lib.ListN.{length}
 use Rattle.refusal.specs.Outcome.{done}
 use Rattle.refusal.proofs.Outcome.{refuses}
-use Rattle.sbox.specs.Operations.{testedReport, callTests, sboxOutcome}
+use Rattle.sbox.specs.Operations.{testedReport, callTests, sboxOutcome, sboxCall}
+use Rattle.steps.specs.Call.{callOutcome}
 use Rattle.sbox.proofs.Calls.{tests-passed}
 use Rattle.sbox.proofs.substituting.sbox.Statement.{statement}
 use Rattle.sbox.proofs.substituting.sbox.Tie as tie
@@ -16,9 +17,6 @@ use Rattle.sbox.proofs.substituting.sbox.Tie as tie
 tested : (c : tie.After-tested2) → let a = c .before .before .before .before .before .before .before .args in
     callTests (a .rec .now) (a .s) (a .shares .now) (a .random .now) (eqb (length (a .out .now)) (a .s)) ≡ done (c .tested2 .given .0 .0 ∷ [])
 tested c = sym (c .before .before .call-tests .ensures) ∙ ap testedReport (c .tested2 .given .1)
-
-call-tests-requires : tie.Need-call-tests-requires
-call-tests-requires c κs = search needs
 
 enum-known-tested : tie.Need-enum-known-tested
 enum-known-tested c = search needs
@@ -32,26 +30,24 @@ substitute-requires c κs =
     (p .0, eqb-true _ _ (p .1))
 
 returns : tie.Need-returns
-unfolding sboxOutcome
+unfolding sboxOutcome sboxCall callOutcome
 returns c =
-    let e = sym (c .before .before .before .call-tests .ensures) ∙ ap testedReport (c .before .tested .given .1) in
-    refuses (rw e)
-
-same-length : tie.Need-same-length
-same-length c = search needs
+    let e = sym (c .before .before .before .before .call-tests .ensures) ∙ ap testedReport (c .before .before .tested .given .1) in
+    refuses (c .refuse .ensures) (rw e)
 
 returns-2 : tie.Need-returns-2
-unfolding sboxOutcome
+unfolding sboxOutcome sboxCall callOutcome
 returns-2 c = rw (tested (c .before .before .before .before .before)) (c .before .before .substitute .ensures)
 
 pub sbox-spec : {M : Type 1} → statement M
 sbox-spec =
     tie.close
     (tie.spec
-    call-tests-requires
+    (λ c κs. search needs)
     enum-known-tested
+    (λ c κs. search needs)
     enum-known-tested-2
     substitute-requires
     returns
-    same-length
+    (λ c. search needs)
     returns-2)

@@ -19,12 +19,6 @@ call-requires c κs = search needs
 copy-out-requires : tie.Need-copy-out-requires
 copy-out-requires c κs = search needs
 
-bytes-for-requires : tie.Need-bytes-for-requires
-bytes-for-requires c κs = search needs
-
-same-length : tie.Need-same-length
-same-length c = search needs
-
 returns : tie.Need-returns
 returns c =
     let p = c .before .before .before .before .before .before .before .before .before .before .before .before .before .before .before .before .pre in
@@ -39,6 +33,6 @@ substitute-spec =
     slice-aggregate-call-2
     call-requires
     copy-out-requires
-    bytes-for-requires
-    same-length
+    (λ c κs. search needs)
+    (λ c. search needs)
     returns)

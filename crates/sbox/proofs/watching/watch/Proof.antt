@@ -8,46 +8,40 @@ use lib.ListN.{length}
 use Rattle.refusal.specs.Large.{firstLarge}
 use Rattle.refusal.proofs.Outcome.{refuses, succeeds}
 use Rattle.steps.proofs.Machine.{went-whole}
-use Rattle.decomposition.proofs.Sizes.{known-width}
 use Rattle.sbox.specs.Figures.{sboxSteps}
 use Rattle.sbox.proofs.Calls.{call-counts, call-watched}
 use Rattle.sbox.proofs.watching.watch.Statement.{statement}
 use Rattle.sbox.proofs.watching.watch.Tie as tie
 
+-- the start, as seen where the list is tested
+abbrev start : tie.After-first-past → tie.Start
+start c = c .before .before .before .before .before .before .before
+
+-- the place of the first number that is not a step's
+past : (c : tie.After-first-past) → firstLarge (sboxSteps (start c .args .width) (start c .args .s)) (start c .args .list .now) ≡ c .first-past .result
+past c = rw (← (c .before .step-count .ensures)) (sym (c .first-past .ensures))
+
 step-count-requires : tie.Need-step-count-requires
 step-count-requires c κs =
     let a = c .before .before .before .before .before .pre .0 in
-    (known-width _ (a .accepted .width), (a .some, a .nine))
-
-first-past-requires : tie.Need-first-past-requires
-first-past-requires c κs = search needs
+    (a .accepted .width, (a .some, a .nine))
 
 returns : tie.Need-returns
 returns c =
-    let a = c .before .before .before .before .before .before .before .before .args in
-    let e : firstLarge (sboxSteps (a .width) (a .s)) (a .list .now) ≡ c .before .first-past .result =
-    rw (← (c .before .before .step-count .ensures)) (sym (c .before .first-past .ensures)) in
-    let h : firstLarge (sboxSteps (a .width) (a .s)) (a .list .now) < length (a .list .now) = omega (arith, e, c .if1 .taken) in
-    refuses (rw (lt-leb _ _ h, e))
+    let d = c .before .before in
+    let a = start d .args in
+    let h : firstLarge (sboxSteps (a .width) (a .s)) (a .list .now) < length (a .list .now) = omega (arith, past d, c .before .if1 .taken) in
+    refuses (c .refuse .ensures) (rw (lt-leb _ _ h, past d))
 
 call-requires : tie.Need-call-requires
 call-requires c κs = search needs
 
-bytes-for-requires : tie.Need-bytes-for-requires
-bytes-for-requires c κs = search needs
-
-same-length : tie.Need-same-length
-same-length c = search needs
-
 returns-2 : tie.Need-returns-2
 returns-2 c =
-    let a = c .before .before .before .before .before .before .before .before .before .before .before .before .before .before .args in
-    let p = c .before .before .before .before .before .before .before .before .before .before .before .before .before .before .pre in
-    let past = c .before .before .before .before .before .before .before .first-past in
-    let e : firstLarge (sboxSteps (a .width) (a .s)) (a .list .now) ≡ past .result =
-    rw (← (c .before .before .before .before .before .before .before .before .step-count .ensures)) (sym (past .ensures)) in
-    let h : length (a .list .now) ≤ firstLarge (sboxSteps (a .width) (a .s)) (a .list .now) =
-    omega (arith, e, c .before .before .before .before .before .before .if1 .left) in
+    let d = c .before .before .before .before .before .before .before in
+    let a = start d .args in
+    let p = start d .pre in
+    let h : length (a .list .now) ≤ firstLarge (sboxSteps (a .width) (a .s)) (a .list .now) = omega (arith, past d, c .before .before .before .before .before .before .if1 .left) in
     let w = c .before .before .before .before .call .ensures in
     succeeds (rw (le-leb _ _ h, call-counts (p .0) (went-whole w), ← (c .bytes-for .ensures))) (call-watched (p .0) (p .1) h w)
 
@@ -56,9 +50,10 @@ watch-spec =
     tie.close
     (tie.spec
     step-count-requires
-    first-past-requires
+    (λ c κs. search needs)
+    (λ c κs. search needs)
     returns
     call-requires
-    bytes-for-requires
-    same-length
+    (λ c κs. search needs)
+    (λ c. search needs)
     returns-2)

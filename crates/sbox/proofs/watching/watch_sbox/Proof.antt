@@ -8,22 +8,17 @@ use lib.Dec.{leb, eqb}
 use lib.ListN.{length}
 use Rattle.refusal.specs.Outcome.{done}
 use Rattle.refusal.proofs.Outcome.{refuses}
-use Rattle.sbox.specs.Operations.{testedReport, callTests, watchOutcome}
-use Rattle.sbox.proofs.Calls.{tests-passed}
+use Rattle.sbox.specs.Operations.{testedReport, callTests, watchOutcome, sboxCall}
+use Rattle.steps.specs.Call as call
+use Rattle.sbox.proofs.Calls.{tests-passed, watch-tests}
 use Rattle.sbox.proofs.watching.watch_sbox.Statement.{statement}
 use Rattle.sbox.proofs.watching.watch_sbox.Tie as tie
-
-list-fits-requires : tie.Need-list-fits-requires
-list-fits-requires c κs = search needs
 
 -- where the tests are passed
 tested : (c : tie.After-tested2) → let a = c .before .before .before .before .before .before .before .before .before .args in
     callTests (a .rec .now) (a .s) (a .shares .now) (a .random .now) (eqb (length (a .list .now)) (length (a .values .now)) && leb (length (a .list .now)) 64)
     ≡ done (c .tested2 .given .0 .0 ∷ [])
 tested c = rw (← (c .before .before .before .list-fits .ensures)) (sym (c .before .before .call-tests .ensures) ∙ ap testedReport (c .tested2 .given .1))
-
-call-tests-requires : tie.Need-call-tests-requires
-call-tests-requires c κs = search needs
 
 enum-known-tested : tie.Need-enum-known-tested
 enum-known-tested c = search needs
@@ -37,29 +32,26 @@ watch-requires c κs =
     (p .0, eqb-true _ _ (and-eq-true-iff _ _ .0 (p .1) .0))
 
 returns : tie.Need-returns
-unfolding watchOutcome
+unfolding watchOutcome sboxCall call.watchOutcome
 returns c =
-    let e = sym (c .before .before .before .call-tests .ensures) ∙ ap testedReport (c .before .tested .given .1) in
-    refuses (rw (← (c .before .before .before .before .list-fits .ensures), e))
-
-same-length : tie.Need-same-length
-same-length c = search needs
+    let e = sym (c .before .before .before .before .call-tests .ensures) ∙ ap testedReport (c .before .before .tested .given .1) in
+    refuses (c .refuse .ensures) (rw (← (c .before .before .before .before .before .list-fits .ensures), e))
 
 returns-2 : tie.Need-returns-2
-unfolding watchOutcome
 returns-2 c =
     let e = tested (c .before .before .before .before .before) in
-    rw (e, tests-passed _ _ _ _ _ _ e .0 .accepted .named) (c .before .before .watch .ensures)
+    rw (watch-tests (tests-passed _ _ _ _ _ _ e .0) _ _ e) (c .before .before .watch .ensures)
 
 pub watch-sbox-spec : {M : Type 1} → statement M
 watch-sbox-spec =
     tie.close
     (tie.spec
-    list-fits-requires
-    call-tests-requires
+    (λ c κs. search needs)
+    (λ c κs. search needs)
     enum-known-tested
+    (λ c κs. search needs)
     enum-known-tested-2
     watch-requires
     returns
-    same-length
+    (λ c. search needs)
     returns-2)

@@ -4,12 +4,9 @@ use Rattle.steps.specs.Tape.{elements}
 use Rattle.steps.proofs.drawing.first_large_element.Statement.{statement}
 use Rattle.steps.proofs.drawing.first_large_element.Tie as tie
 
-first-large-requires : tie.Need-first-large-requires
-first-large-requires c κs = search needs
-
 returns : tie.Need-returns
 unfolding elements
 returns c = search needs
 
 pub first-large-element-spec : {M : Type 1} → statement M
-first-large-element-spec = tie.close (tie.spec first-large-requires returns)
+first-large-element-spec = tie.close (tie.spec (λ c κs. search needs) returns)

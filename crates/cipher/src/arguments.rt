@@ -1,0 +1,119 @@
+// The tests that Block and its watch share.
+ghost use mathlib.Core.Path.{_≡_};
+ghost use mathlib.Core.List.{[], _∷_};
+ghost use Prim.Native.Nat.{_<_, _≤_};
+ghost use Rattle.refusal.specs.Outcome.{done, refused};
+ghost use Rattle.refusal.specs.Large.{testBelow};
+ghost use Rattle.steps.specs.Tape.{elements};
+ghost use Rattle.decomposition.specs.Record.{readOutcome};
+ghost use Rattle.cipher.specs.Operations.{testedReport, recordTests, blockLengths, argumentTests, callTests};
+use crate::figures::draw_count;
+use decomposition::CheckAnswer;
+use decomposition::ReadAnswer;
+use decomposition::check;
+use decomposition::read;
+use refusal::one_to;
+use steps::bytes_for;
+use steps::element_count;
+use steps::first_large_element;
+
+// The table of PRESENT's S-box.
+const TABLE: [u8; 16] = [12, 5, 6, 11, 9, 0, 10, 13, 3, 14, 15, 8, 4, 7, 1, 2];
+
+// What the tests come to.
+pub enum Tested {
+    Passed,
+    Refused { number: u8, place: usize },
+}
+
+impl Tested {
+    // A refusal.
+    fn refuse(number: u8, place: usize) -> Tested
+        ensures { λ r. ⌜ testedReport r ≡ refused number place ⌝ }
+    {
+        Tested::Refused { number, place }
+    }
+}
+
+// All tests. `fits` says whether what is lent for output has its length.
+pub fn call_tests(rec: &[u8], s: u32, key: &[u8], block: &[u8], random: &[u8], fits: bool) -> Tested
+    ensures { λ r. ⌜ testedReport r ≡ callTests (now (rec .entry)) s (now (key .entry)) (now (block .entry)) (now (random .entry)) fits ⌝ }
+{
+    let tested = record_tests(rec);
+    match tested {
+        Tested::Refused { number, place } => Tested::refuse(number, place),
+        Tested::Passed => argument_tests(s, key, block, random, fits),
+    }
+}
+
+// The tests of the record.
+fn record_tests(rec: &[u8]) -> Tested
+    ensures { λ r. ⌜ testedReport r ≡ recordTests (now (rec .entry)) ⌝ }
+{
+    let answer = read(rec);
+    match answer {
+        ReadAnswer::Refused { number, place } => Tested::refuse(number, place),
+        ReadAnswer::Done { width } => table_tests(width, rec),
+    }
+}
+
+// The tests of a record that Read accepts: its width, and the table that it computes.
+fn table_tests(width: u32, rec: &[u8]) -> Tested
+    requires { ⌜ readOutcome (now rec) ≡ done (width ∷ []) ⌝ }
+    ensures { λ r. ⌜ testedReport r ≡ recordTests (now (rec .entry)) ⌝ }
+{
+    if width != 4 {
+        return Tested::refuse(1, 0);
+    }
+    let table = TABLE;
+    let answer = check(rec, &table);
+    match answer {
+        CheckAnswer::Refused {
+            number: _,
+            place: _,
+        } => Tested::refuse(6, 0),
+        CheckAnswer::Done => Tested::Passed,
+    }
+}
+
+// The tests of the arguments.
+fn argument_tests(s: u32, key: &[u8], block: &[u8], random: &[u8], fits: bool) -> Tested
+    ensures { λ r. ⌜ testedReport r ≡ argumentTests s (now (key .entry)) (now (block .entry)) (now (random .entry)) fits ⌝ }
+{
+    let count = s as usize;
+    if !one_to(9, count) {
+        return Tested::refuse(7, 0);
+    }
+    if !lengths_fit(count, key.len(), block.len(), random.len(), fits) {
+        return Tested::refuse(2, 0);
+    }
+    element_tests(random)
+}
+
+// Whether key, block and random bytes, so many, are what so many shares take, and `fits` holds.
+fn lengths_fit(count: usize, key: usize, block: usize, random: usize, fits: bool) -> bool
+    requires { ⌜ (0 < count) × (count ≤ 9) ⌝ }
+    ensures { λ r. ⌜ r ≡ blockLengths count key block random fits ⌝ }
+{
+    if key != 10 * count {
+        return false;
+    }
+    if block != 8 * count {
+        return false;
+    }
+    if random != bytes_for(4, draw_count(count)) {
+        return false;
+    }
+    fits
+}
+
+// The test of the random elements.
+fn element_tests(random: &[u8]) -> Tested
+    ensures { λ r. ⌜ testedReport r ≡ testBelow 16 0 (elements 4 (now (random .entry))) (done []) ⌝ }
+{
+    let first = first_large_element(4, 16, random);
+    if first < element_count(4, random) {
+        return Tested::refuse(3, first);
+    }
+    Tested::Passed
+}

@@ -5,24 +5,15 @@ use mathlib.Core.List.{List, [], _∷_, _++_}
 use Prim.Native.Nat.{ℕ, _-_}
 use native.Mathlib.Omega.{arith}
 use lib.ListN.{length, replicate, length-replicate}
-use Rattle.xor.specs.Sum.{Small}
 use Rattle.steps.specs.Choices.{Fits}
 use Rattle.steps.specs.Tape.{elements}
 use Rattle.steps.specs.Settled.{Secret, secretBits, Inputs, MasksFor, masks-nil, masks-cons, Choice, maskBits, choiceBits, masksThen, Chosen}
 use Rattle.steps.proofs.Choices.{fits-small, small-fits, tape-joined, tape-parted, parts-once}
 use Rattle.steps.proofs.Tape.{elements-count, elements-held, elements-once}
 
--- ---- the masks of one secret
-
-module _ {s : ℕ} {x : Secret} {xs : List Secret} {l : List ℕ} {ls : List (List ℕ)} where
-  pub masks-length : MasksFor s (x ∷ xs) (l ∷ ls) → length l ≡ s - 1
-  masks-length (masks-cons e small rest) = e
-
-  pub masks-small : MasksFor s (x ∷ xs) (l ∷ ls) → Small (secretBits x) l
-  masks-small (masks-cons e small rest) = small
-
-  pub masks-rest : MasksFor s (x ∷ xs) (l ∷ ls) → MasksFor s xs ls
-  masks-rest (masks-cons e small rest) = rest
+-- there are as many masks of a secret as shares after the first
+pub masks-length : {s : ℕ} {x : Secret} {xs : List Secret} {l : List ℕ} {ls : List (List ℕ)} → MasksFor s (x ∷ xs) (l ∷ ls) → length l ≡ s - 1
+masks-length (masks-cons e small rest) = e
 
 -- ---- a choice and its tape
 

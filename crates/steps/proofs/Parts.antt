@@ -86,10 +86,6 @@ module _ {tape watch : List ℕ} where
     ready-mark m y =
         record { products-fit = y .products-fit; draws-fit = y .draws-fit; steps-fit = y .steps-fit; enough = y .enough; places = y .places }
 
-    -- the next step's number fits
-    pub ready-number : {A : Type 0} (m : Run A) → Ready tape watch m n vs → n .steps < 2 ^ 32
-    ready-number m y = let g = exec-grows tape watch m n vs in omega arith
-
     -- the counts so far fit
     pub ready-products : {A : Type 0} (m : Run A) → Ready tape watch m n vs → n .products < 2 ^ 64
     ready-products m y = let g = exec-grows tape watch m n vs in omega arith

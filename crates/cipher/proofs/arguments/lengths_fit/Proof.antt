@@ -1,4 +1,7 @@
 -- `arguments::lengths_fit` meets its contract: each test is that of the definition.
+use mathlib.Core.Path.{_≡_, sym, _∙_}
+use mathlib.Core.Bool.{_&&_}
+use lib.Dec.{eqb}
 use borrow.Author.Needs.{needs}
 use borrow.Author.Tests.{eq-eqb, ne-eqb}
 use Rattle.cipher.specs.Operations.{blockLengths}
@@ -22,27 +25,23 @@ returns-2 c = rw (eq-eqb _ _ (c .before .if1 .left), ne-eqb _ _ (c .if2 .taken))
 draw-count-requires : tie.Need-draw-count-requires
 draw-count-requires c κs = search needs
 
-returns-3 : tie.Need-returns-3
+-- the lengths of key and block are right, so it is by that of the random bytes
+by-random : (c : tie.After-bytes-for) → let a = c .before .before .before .before .args in
+    blockLengths (a .count) (a .key) (a .block) (a .random) (a .fits) ≡ (eqb (a .random) (c .bytes-for .result) && a .fits)
 unfolding blockLengths
-returns-3 c =
+by-random c =
     rw (
-      eq-eqb _ _ (c .before .before .before .before .if1 .left),
-      eq-eqb _ _ (c .before .before .before .if2 .left),
-      ← (c .before .before .draw-count .ensures),
-      ← (c .before .bytes-for .ensures),
-      ne-eqb _ _ (c .if3 .taken),
+      eq-eqb _ _ (c .before .before .before .if1 .left),
+      eq-eqb _ _ (c .before .before .if2 .left),
+      ← (c .before .draw-count .ensures),
+      ← (c .bytes-for .ensures),
     )
 
+returns-3 : tie.Need-returns-3
+returns-3 c = sym (by-random (c .before) ∙ rw (ne-eqb _ _ (c .if3 .taken)))
+
 returns-4 : tie.Need-returns-4
-unfolding blockLengths
-returns-4 c =
-    rw (
-      eq-eqb _ _ (c .before .before .before .before .if1 .left),
-      eq-eqb _ _ (c .before .before .before .if2 .left),
-      ← (c .before .before .draw-count .ensures),
-      ← (c .before .bytes-for .ensures),
-      eq-eqb _ _ (c .if3 .left),
-    )
+returns-4 c = sym (by-random (c .before) ∙ rw (eq-eqb _ _ (c .if3 .left)))
 
 pub lengths-fit-spec : {M : Type 1} → statement M
 lengths-fit-spec =

@@ -30,7 +30,6 @@ use Rattle.decomposition.specs.Check.{recordForm, firstDifference, checkOutcome
 use Rattle.decomposition.proofs.ReadOutcome.{read-values, read-accepted}
 use Rattle.sbox.proofs.Record.{accepted-record}
 use Rattle.sbox.proofs.Runs.{result-sharing, result-places}
-use Rattle.sbox.proofs.Calls.{few-pairs}
 use Rattle.present.specs.Present.{table}
 use Rattle.steps.specs.ShareBytes.{shareAt, sharesOf, sharing, bytesOf}
 use Rattle.steps.proofs.View.{share-sharing}
@@ -41,6 +40,7 @@ use Rattle.cipher.specs.Experiment.{PresentRecord}
 use Rattle.cipher.specs.Figures.{blockProducts, blockDraws, blockSteps}
 use Rattle.cipher.proofs.Theorems.{takes}
 use Rattle.cipher.specs.Operations.{callProgram, blockCall, computesTable, recordTests, blockLengths, argumentTests, callTests, blockOutput, watchOutput, Callable}
+use Rattle.product.proofs.Counts.{few-pairs}
 
 -- ---- numbers stay small
 

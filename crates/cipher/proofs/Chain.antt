@@ -1,6 +1,6 @@
 -- THE CHAIN. Split, Block and Join, one after the other: for every key and block, all masks and all random elements each of them accepts its call,
 -- and Join writes the eight bytes of the ciphertext.
-use mathlib.Core.Path.{_≡_, sym, ap, ap₂, _∙_}
+use mathlib.Core.Path.{_≡_, ap, ap₂, _∙_}
 use mathlib.Core.List.{List, []}
 use Prim.Native.Nat.{ℕ, _-_, _*_, _≤_, _<_}
 use native.Mathlib.Nat.{mul-comm}
@@ -9,8 +9,8 @@ use lib.ListN.{length}
 use Rattle.xor.specs.Sum.{Small}
 use Rattle.refusal.specs.Outcome.{done}
 use Rattle.steps.specs.Tape.{elements, bytesFor}
-use Rattle.steps.specs.Operations.{splitShares, splitOutcome, joinShares}
-use Rattle.steps.proofs.Operations.{length-split, split-accepts, join-accepts, join-of-split}
+use Rattle.steps.specs.Operations.{splitShares}
+use Rattle.steps.proofs.Operations.{join-accepts, split-length, split-accepted, split-joined}
 use Rattle.present.specs.Present.{size80, encrypt}
 use Rattle.steps.specs.Bytes.{fromBytes, toBytes}
 use Rattle.cipher.specs.Figures.{figures, blockDraws}
@@ -19,18 +19,6 @@ use Rattle.cipher.specs.Chain.{enciphered, Chained}
 use Rattle.steps.proofs.ShareBytes.{small-split}
 use Rattle.cipher.proofs.Output.{output-length, join-ciphertext}
 use Rattle.cipher.proofs.Settles.{block-accepts}
-
--- a value of w bytes, split: how many bytes Split writes, that it accepts the call, and that Join gives the value again
-module _ (w s : ℕ) (some : 0 < s) (value masks : List ℕ) (bytes : length value ≡ w) (masked : length masks ≡ (s - 1) * w) where
-  split-length : length (splitShares s value masks) ≡ s * w
-  split-length = length-split s value masks some (rw bytes masked) ∙ ap (λ (k : ℕ). s * k) bytes
-
-  split-accepted : s ≤ 9 → 0 < w → w ≤ 16 → splitOutcome (length value) s (length masks) (length (splitShares s value masks)) ≡ done []
-  split-accepted nine long short =
-      rw bytes (split-accepts w s (length masks) (length (splitShares s value masks)) some nine long short masked split-length)
-
-  split-joined : joinShares w s (splitShares s value masks) ≡ value
-  split-joined = ap (λ (k : ℕ). joinShares k s (splitShares s value masks)) (sym bytes) ∙ join-of-split s value masks some
 
 -- For every record that passes the tests of Block, 1 to 9 shares, every key of 10 bytes and block of 8, all masks and all random elements.
 pub chained : (r : List ℕ) (s : ℕ) → recordTests r ≡ done [] → 0 < s → s ≤ 9

@@ -18,6 +18,7 @@ use Rattle.steps.proofs.Choices.{fits-small}
 use Rattle.steps.specs.Call.{Takes}
 use Rattle.steps.proofs.Shape.{shaped-result, shaped-draws}
 use Rattle.steps.proofs.Call.{takes-shape}
+use Rattle.steps.proofs.TwoSecrets.{two-trace}
 use Rattle.sbox.specs.Figures.{sboxProducts, sboxDraws, sboxSteps}
 use Rattle.sbox.proofs.Counts.{sbox-steps, sbox-draws, sbox-products, uniform-sbox}
 use Rattle.present.specs.Present.{size80, State, encrypt}
@@ -29,7 +30,6 @@ use Rattle.present.proofs.Joined.{encrypt-joins}
 use Rattle.present.proofs.Counts.{block-steps, block-draws, block-products, block-bits}
 use Rattle.present.proofs.Secrecy as present
 use Rattle.present.proofs.Secrecy.{block-untouched-share, block-few-steps, choice-bits}
-use Rattle.present.proofs.Experiment.{experiment-trace}
 use Rattle.cipher.specs.Box.{recordSbox, blockProgram}
 use Rattle.cipher.specs.Figures.{blockProducts, blockDraws, blockSteps}
 use Rattle.cipher.specs.Experiment.{PresentRecord, boxShape, experiment, blockInputs}
@@ -110,8 +110,8 @@ module _ (r : List ℕ) (accepted : PresentRecord r) (s : ℕ) (some : 0 < s) (n
   -- the sharings that the secret and these shares settle.
   pub experiment-steps : (a : State ℕ) (l m random : List ℕ) → length l ≡ s - 1 → length m ≡ s - 1
       → trace (experiment r s a) (l ++ (m ++ random)) ≡ trace (blockProgram r s (a .key ⊕ join l ∷ l) (a .block ⊕ join m ∷ m)) random
-  unfolding experiment
-  experiment-steps = experiment-trace (recordSbox s r) size80 s
+  unfolding experiment present-spec.experiment
+  experiment-steps a = two-trace 80 64 s (blockProgram r s) (a .key, a .block)
 
   -- The experiment draws the elements of a choice, and no other.
   pub experiment-draws : (a : State ℕ) → Secret size80 a → (tape : List ℕ) → Fits (choiceBits (blockInputs s)) tape

@@ -11,7 +11,8 @@ use Rattle.xor.proofs.Xor.{bit-cases, ⊕-zero, zero-⊕, ⊕-self, ⊕-shr, �
 use Rattle.xor.proofs.Sum.{additive-below}
 use Rattle.xor.proofs.Basis.{agree}
 use Rattle.field.proofs.Tests.{same-below}
-use Rattle.present.specs.Present.{turns, iterate, bit, place, send, permute}
+use Rattle.steps.specs.Iterate.{turns, iterate}
+use Rattle.present.specs.Present.{bit, place, send, permute}
 use Rattle.present.proofs.Numbers.{⊕-shl, permute-linear}
 use Rattle.layers.specs.Swap.{difference, exchange}
 

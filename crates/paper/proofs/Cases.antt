@@ -18,13 +18,14 @@ use Rattle.steps.specs.Fill.{tabulate}
 use Rattle.steps.specs.Tape.{elements, bytesFor}
 use Rattle.steps.specs.Operations.{column, maskedByte, splitShares}
 use Rattle.product.specs.Product.{start, pair, row, product}
-use Rattle.product.specs.ByShare.{byShare, square, squares}
+use Rattle.product.specs.ByShare.{byShare, constant, square, squares}
 use Rattle.sbox.specs.Form.{basisSize}
 use Rattle.sbox.specs.Polynomials.{polynomialsOf, basisIn, solutionIn}
 use Rattle.sbox.specs.Sbox as sbox
 use Rattle.sbox.specs.Figures.{sboxSteps}
 use Rattle.sbox.specs.Operations.{callProgram, sboxCall}
-use Rattle.present.specs.Present.{turns, iterate, nibble, replace, onNibble, substitute, place, rotate, onTopNibbles, roundNumber, updateKey}
+use Rattle.steps.specs.Iterate.{turns, iterate}
+use Rattle.present.specs.Present.{nibble, replace, onNibble, substitute, place, rotate, onTopNibbles, roundNumber, updateKey}
 use Rattle.present.specs.Present as present
 use Rattle.paper.specs.Cases.{Case, computed, zeroFit, splitValue, checks}
 
@@ -32,7 +33,7 @@ rows : map (λ (c : Case). c .given) computed ≡ map (λ (c : Case). c .said) c
 unfolding computed houseBasis products classes flatten exponents combination value join
     _>>=_ _>>_ note random loop for first later result trace watched draws program.products start pair row product tabulate elements bytesFor
     layout sized termsOf headed basisSize polynomialsOf basisIn solutionIn
-    byShare square squares sbox.factors sbox.classesAfter sbox.powers sbox.constant sbox.term sbox.polynomial sbox.polynomials sbox.products sbox.total sbox.sbox
+    byShare square squares sbox.factors sbox.classesAfter sbox.powers constant sbox.term sbox.polynomial sbox.polynomials sbox.products sbox.total sbox.sbox
     sboxSteps callProgram sboxCall callCounts
     turns iterate nibble replace onNibble present.table substitute place rotate onTopNibbles roundNumber updateKey
 rows = refl

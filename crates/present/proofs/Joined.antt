@@ -16,7 +16,8 @@ use Rattle.present.specs.Masked.{maskedNibble, maskedSboxLayer, maskedTo
 use Rattle.present.specs.Masked.{sharesShape, updateShape, roundShape, blockShape}
 use Rattle.present.proofs.Numbers.{nibble-linear, replace-linear, permute-linear, round-key-linear, rotate-linear, round-number-lt}
 use Rattle.steps.proofs.ShareWise.{sharing-map, sharing-share-wise, sharing-held, sharing-alone, sum-linear}
-use Rattle.present.proofs.Recording.{shaped-iterate, shaped-nibbles, shaped-recorded}
+use Rattle.steps.proofs.Iterate.{shaped-iterate}
+use Rattle.present.proofs.Recording.{shaped-nibbles, shaped-recorded}
 
 -- ---- the S-box, for any f by which its program substitutes
 

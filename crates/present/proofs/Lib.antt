@@ -4,5 +4,4 @@ pub mod Joined
 pub mod Counts
 pub mod Coupled
 pub mod Secrecy
-pub mod Experiment
 pub mod Vectors

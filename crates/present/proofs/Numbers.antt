@@ -14,7 +14,8 @@ use Rattle.xor.specs.Sum.{Additive}
 use Rattle.xor.proofs.Xor.{⊕-zero, zero-⊕, ⊕-lt, ⊕-cancel, ⊕-exchange, ⊕-shr, ⊕-mod, xor}
 use Rattle.steps.proofs.Tests.{told-apart}
 use Rattle.steps.proofs.Bytes.{⊕-block}
-use Rattle.present.specs.Present.{turns, iterate, bit, nibble, replace, place, send, permute, Size, keyBits, Sound, size80, roundKey, rotate, roundNumber}
+use Rattle.steps.specs.Iterate.{turns, iterate}
+use Rattle.present.specs.Present.{bit, nibble, replace, place, send, permute, Size, keyBits, Sound, size80, roundKey, rotate, roundNumber}
 use Rattle.steps.specs.Linear.{Linear, LinearPair}
 
 -- ---- sums of blocks of bits

@@ -2,7 +2,8 @@
 use mathlib.Core.Path.{_≡_, refl}
 use mathlib.Core.List.{map}
 use Rattle.xor.specs.Xor.{_⊕_}
-use Rattle.present.specs.Present.{turns, iterate, bit, nibble, replace, onNibble, table, substitute, sboxLayer, place, send, permute, size80}
+use Rattle.steps.specs.Iterate.{turns, iterate}
+use Rattle.present.specs.Present.{bit, nibble, replace, onNibble, table, substitute, sboxLayer, place, send, permute, size80}
 use Rattle.present.specs.Present.{roundKey, rotate, onTopNibbles, roundNumber, updateKey, addRoundKey, round, encrypt}
 use Rattle.present.specs.Vectors.{Vector, vectors}
 

@@ -2,21 +2,11 @@
 -- lowest.
 use mathlib.Core.Bool.{cond}
 use mathlib.Core.List.{List, [], _∷_}
-use Prim.Native.Nat.{ℕ, zero, suc, _+_, _-_, _*_, _/_, _%_, _^_, _≤_}
+use Prim.Native.Nat.{ℕ, _+_, _-_, _*_, _/_, _%_, _^_, _≤_}
 use lib.Dec.{eqb}
 use lib.ListN.{getD}
 use Rattle.xor.specs.Xor.{_⊕_}
-
--- ---- loops
-
--- f at i, at i + 1 and so on, k times, each from what the one before gave
-unfoldable pub turns : {A : Type 0} → (ℕ → A → A) → ℕ → ℕ → A → A
-turns f i zero a = a
-turns f i (suc k) a = f (i + k) (turns f i k a)
-
--- f at each number from i up to s, s not included
-unfoldable pub iterate : {A : Type 0} → ℕ → ℕ → (ℕ → A → A) → A → A
-iterate i s f a = turns f i (s - i) a
+use Rattle.steps.specs.Iterate.{iterate}
 
 -- ---- bits and nibbles
 

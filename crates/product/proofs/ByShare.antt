@@ -21,7 +21,7 @@ use Rattle.steps.proofs.Shape.{shaped-for, shaped-weaken, shaped-note, uniform-
 use Rattle.steps.proofs.Coupling.{coupled-bind, coupled-for}
 use Rattle.steps.proofs.Sharing.{loopSum, forSum, for-sum-turn, for-sum-end, for-sum-same, for-sum-add, for-sum-map, join-for}
 use Rattle.steps.proofs.Sharing.{filled-none, filled-sharing, shaped-store, close-self, small-zeros, coupled-store, close-at, coupled-note}
-use Rattle.product.specs.ByShare.{byShare, square, squares, times, squareShape}
+use Rattle.product.specs.ByShare.{byShare, constant, square, squares, times, squareShape}
 
 -- ---- sums
 
@@ -76,6 +76,34 @@ adds-sum {n} {s} k f v h = go 0 (k - 0) (λ r l. h r (omega arith))
     go : (j m : ℕ) → ((r : ℕ) → r < j + m → Adds n s (f r) (v r)) → Adds n s (λ i. loopSum (λ r. f r i) j m) (loopSum v j m)
     go j zero h = adds-zero n s
     go j (suc m) h = adds-add (h j (omega arith)) (go (j + 1) m (λ r l. h r (omega arith)))
+
+-- ---- a constant
+
+-- it goes to share 0 only
+pub constant-first : (i c : ℕ) → i ≡ 0 → c ≡ constant i c
+unfolding constant
+constant-first i c e = rw e
+
+pub constant-other : (i c : ℕ) → (i ≡ 0 → ⊥) → 0 ≡ constant i c
+unfolding constant
+constant-other zero c h = absurd (h refl)
+constant-other (suc i) c h = refl
+
+pub constant-small : (n i c : ℕ) → c < 2 ^ n → constant i c < 2 ^ n
+unfolding constant
+constant-small n zero c h = h
+constant-small n (suc i) c h = pow-pos n
+
+pub adds-constant : (n s c : ℕ) → 0 < s → c < 2 ^ n → Adds n s (λ i. constant i c) c
+unfolding constant
+adds-constant n s c l h = record {
+  small = λ i. constant-small n i c h;
+  sum = for-sum-turn 0 s (λ i. constant i c) l ∙ ap (λ (v : ℕ). c ⊕ v) (for-sum-none 1 s (λ i. constant i c) later) ∙ ⊕-zero c;
+}
+  where
+    later : (i : ℕ) → 1 ≤ i → constant i c ≡ 0
+    later zero m = absurd (omega arith)
+    later (suc i) m = refl
 
 -- ---- the shape
 

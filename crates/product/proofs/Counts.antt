@@ -1,8 +1,8 @@
 -- How many steps, draws and products a masked product has.
 use mathlib.Core.Path.{_≡_, refl, sym, ap, ap₂, _∙_}
 use mathlib.Core.List.{[], _∷_}
-use Prim.Native.Nat.{ℕ, zero, suc, _+_, _-_, _*_, _/_}
-use native.Mathlib.Nat.{zero-mul, add-mul, suc-mul, mul-suc, mul-sub, mul-one, mul-div-cancel, zero-lt-suc, sub-zero}
+use Prim.Native.Nat.{ℕ, zero, suc, _+_, _-_, _*_, _/_, _≤_}
+use native.Mathlib.Nat.{zero-mul, add-mul, suc-mul, mul-suc, mul-sub, mul-one, mul-div-cancel, zero-lt-suc, sub-zero, mul-le-mul}
 use native.Mathlib.Omega.{arith}
 use Rattle.steps.specs.Program.{one}
 use Rattle.steps.specs.Shape.{stepOf, marked, Shape, touchesOf, bitsOf, stepsOf, drawsOf, productsOf, Counting, Uniform, forShape}
@@ -27,6 +27,10 @@ pairs-is s = sym (ap (λ (x : ℕ). x / 2) (pairs-double s) ∙ mul-div-cancel (
 -- the half is exact
 pub pairs-twice : (s : ℕ) → s * (s - 1) / 2 * 2 ≡ s * (s - 1)
 pairs-twice s = ap (λ (x : ℕ). x * 2) (sym (pairs-is s)) ∙ sym (pairs-double s)
+
+-- nine shares have few
+pub few-pairs : {s : ℕ} → s ≤ 9 → s * (s - 1) ≤ 72
+few-pairs {s} h = mul-le-mul {n₂ = 9} {m₂ = 8} h (omega arith)
 
 module _ {f : Shape → ℕ} (c : Counting f) (n s : ℕ) where
   counts-rows : (q : ℕ) → ((i j : ℕ) → f (pairShape n i j) ≡ q) → (k i : ℕ) → i + k ≡ s → f (forShape i s (rowShape n s)) ≡ pairs k * q

@@ -13,6 +13,11 @@ byShare s f = for 0 s (λ i c. do
   v ← f i
   return (set c i v)) (replicate 9 0)
 
+-- a constant goes to share 0 only
+unfoldable pub constant : ℕ → ℕ → ℕ
+constant zero c = c
+constant (suc i) c = 0
+
 -- sharing number k of a list
 abbrev pub nth : List (List ℕ) → ℕ → List ℕ
 nth l k = getD l k []

@@ -1,4 +1,5 @@
 // The masked product of two sharings. A sharing is held in nine bytes, 0 past the shares in use; of a longer slice only these count.
+ghost use mathlib.Core.Path.{_≡_};
 ghost use Prim.Native.Nat.{_+_, _<_, _≤_};
 ghost use lib.ListN.{length};
 ghost use Rattle.field.specs.Mul.{Width};
@@ -6,12 +7,20 @@ ghost use Rattle.steps.specs.Program.{for};
 ghost use Rattle.steps.specs.Tape.{elements};
 ghost use Rattle.steps.specs.Machine.{Ready, Went, ReadySteps, WentSteps};
 ghost use Rattle.product.specs.Product as spec;
+ghost use Rattle.product.specs.ByShare as byShare;
 use steps::Counts;
 
 // A sharing, with what the run has taken when it is made.
 pub struct Masked {
     pub shares: [u8; 9],
     pub counts: Counts,
+}
+
+// What share i of a sharing gets of the constant c: it goes to share 0 only.
+pub fn constant(i: usize, c: u8) -> u8
+    ensures { λ r. ⌜ r ≡ byShare.constant i c ⌝ }
+{
+    if i == 0 { c } else { 0 }
 }
 
 // The seven steps of the pair of shares i and j.
@@ -157,7 +166,7 @@ fn start(
     ensures { λ r. ⌜ WentSteps (now (watch .entry)) (spec.start width (now (a .entry)) (now (b .entry)) i (now (c .entry)))
         n (now (values .entry)) (now (c .exit)) r (now (values .exit)) ⌝ }
 {
-    let v = field::mul(width, a[i], b[i]);
+    let v = field::double_and_add(width, a[i], b[i]);
     let next = steps::record(watch, values, n, v);
     c[i] = v;
     next

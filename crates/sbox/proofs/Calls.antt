@@ -39,11 +39,9 @@ use Rattle.sbox.specs.Operations.{callProgram, sboxCall, sboxLengths, ar
 use Rattle.sbox.proofs.Places.{sbox-same}
 use Rattle.sbox.proofs.Record.{accepted-record}
 use Rattle.sbox.proofs.Runs.{takes}
+use Rattle.product.proofs.Counts.{few-pairs}
 
 -- ---- numbers stay small
-
-pub few-pairs : {s : ℕ} → s ≤ 9 → s * (s - 1) ≤ 72
-few-pairs {s} h = mul-le-mul {n₂ = 9} {m₂ = 8} h (omega arith)
 
 pub few-taken : (n s : ℕ) → Known n → s ≤ 9 → (sboxProducts n < 6) × (sboxDraws n s < 200) × (sboxSteps n s < 4000)
 unfolding sboxProducts sboxDraws sboxSteps

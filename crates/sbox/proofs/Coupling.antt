@@ -11,11 +11,10 @@ use Rattle.steps.specs.Sharing.{share, CloseAt, Close, CloseAll, close-nil, clo
 use Rattle.steps.proofs.Coupling.{coupled-bind, coupled-for}
 use Rattle.steps.proofs.Sharing.{close-at, close-nth, close-append, coupled-note}
 use Rattle.product.proofs.Coupling.{coupled-product}
-use Rattle.product.proofs.ByShare.{close-same, close-add, close-mul, coupled-squares, coupled-by-share}
-use Rattle.sbox.specs.Sbox.{factors, classesAfter, powers, constant, term, polynomial, polynomials, products, total, sbox}
-use Rattle.product.specs.ByShare.{nth}
+use Rattle.product.proofs.ByShare.{close-same, close-add, close-mul, coupled-squares, coupled-by-share, constant-small}
+use Rattle.sbox.specs.Sbox.{factors, classesAfter, powers, term, polynomial, polynomials, products, total, sbox}
+use Rattle.product.specs.ByShare.{nth, constant}
 use Rattle.sbox.specs.Form.{SmallAll, Coefficients}
-use Rattle.sbox.proofs.FirstShare.{constant-small}
 
 -- ---- the S-box
 

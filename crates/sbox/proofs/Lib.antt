@@ -1,4 +1,3 @@
-pub mod FirstShare
 pub mod Powers
 pub mod Shape
 pub mod Counts

@@ -16,8 +16,8 @@ use Rattle.steps.proofs.Lockstep.{Lockstep, lockstep-return, lockstep-step, loc
 use Rattle.steps.proofs.Lockstep.{lockstep-weaken, lockstep-for, lockstep-same}
 use Rattle.steps.proofs.Sharing.{share-zeros}
 use Rattle.product.specs.Product.{product}
-use Rattle.sbox.specs.Sbox.{constant, factors, classesAfter, powers, term, polynomial, polynomials, products, total, sbox}
-use Rattle.product.specs.ByShare.{byShare, nth, square, squares}
+use Rattle.sbox.specs.Sbox.{factors, classesAfter, powers, term, polynomial, polynomials, products, total, sbox}
+use Rattle.product.specs.ByShare.{byShare, nth, square, squares, constant}
 use Rattle.sbox.specs.Table.{cell, setCell, put}
 use Rattle.sbox.specs.Table as table
 use Rattle.sbox.specs.TableSteps.{squareShare, squareRow, multiplyRows, factorsOf, powerClass, powerRows}

@@ -9,8 +9,8 @@ use Rattle.steps.specs.Program.{Run, return, mark, _>>=_, for}
 use Rattle.steps.specs.Sharing.{share}
 use Rattle.steps.proofs.Program.{bind-bind, for-same}
 use Rattle.product.specs.Product.{product, start, row, pair}
-use Rattle.sbox.specs.Sbox.{constant, factors, classesAfter, powers, term, polynomial, polynomials, products, total, sbox}
-use Rattle.product.specs.ByShare.{byShare, nth, square, squares}
+use Rattle.sbox.specs.Sbox.{factors, classesAfter, powers, term, polynomial, polynomials, products, total, sbox}
+use Rattle.product.specs.ByShare.{byShare, nth, square, squares, constant}
 
 -- the squares without the sharing that they begin with
 afterFirst : ℕ → ℕ → ℕ → List ℕ → Run (List (List ℕ))

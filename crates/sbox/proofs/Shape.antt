@@ -26,13 +26,12 @@ use Rattle.steps.proofs.Shape.{shaped-bind, shaped-map, shaped-weaken, shaped-n
 use Rattle.steps.proofs.Sharing.{forSum, for-sum-end, for-sum-same, join-for}
 use Rattle.product.specs.Product.{productShape}
 use Rattle.product.proofs.Shape.{shaped-product}
-use Rattle.sbox.specs.Sbox.{constant, term, polynomial, polynomials, products, total, sbox}
-use Rattle.product.specs.ByShare.{nth}
+use Rattle.sbox.specs.Sbox.{term, polynomial, polynomials, products, total, sbox}
+use Rattle.product.specs.ByShare.{nth, constant}
 use Rattle.sbox.specs.Form.{formOf, SmallAll, Coefficients}
 use Rattle.sbox.specs.Shape.{termShape, polynomialShape, totalShape, sboxShape}
 use Rattle.product.specs.ByShare.{times}
-use Rattle.sbox.proofs.FirstShare.{adds-constant}
-use Rattle.product.proofs.ByShare.{for-sum-none, for-sum-head, adds-share, adds-map, adds-add, adds-sum}
+use Rattle.product.proofs.ByShare.{for-sum-none, for-sum-head, adds-share, adds-map, adds-add, adds-sum, adds-constant}
 use Rattle.product.proofs.ByShare.{shaped-add-up, shaped-by-share}
 use Rattle.sbox.proofs.Powers.{Each, each-nil, each-cons, each-append, each-nth}
 use Rattle.sbox.proofs.Powers.{laterExponents, exponents-later, length-later, IsPower, shaped-powers}

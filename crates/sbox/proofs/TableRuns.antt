@@ -1,7 +1,7 @@
 -- What the parts of the code's program come to on the machine, and the turn of the loop that puts a row.
-use mathlib.Core.Path.{_≡_, refl}
+use mathlib.Core.Path.{_≡_}
 use mathlib.Core.List.{List, [], _∷_}
-use Prim.Native.Nat.{ℕ, zero, suc, _+_, _-_, _*_, _^_, _≤_, _<_}
+use Prim.Native.Nat.{ℕ, _+_, _-_, _*_, _^_, _≤_, _<_}
 use native.Mathlib.Nat.{mul-le-mul-right, suc-mul}
 use native.Mathlib.Numerals.{add-one}
 use native.Mathlib.Omega.{arith}
@@ -17,7 +17,6 @@ use Rattle.steps.specs.Machine.{exec, ended, ReadySteps}
 use Rattle.steps.proofs.Machine.{then-runs, return-runs}
 use Rattle.steps.proofs.StepsAlone.{StepsAlone, alone-return, alone-bind, alone-note, alone-for}
 use Rattle.product.specs.Product.{product}
-use Rattle.sbox.specs.Sbox.{constant}
 use Rattle.product.specs.ByShare.{byShare}
 use Rattle.sbox.specs.Table.{cell, setCell, row, put}
 use Rattle.sbox.specs.TableSteps.{squareShare, squareRow, multiplyRows, termAt, polynomialShare, polynomialRow, addRow, totalShare}
@@ -113,16 +112,6 @@ row-long t r h = rw (row-part t r, length-drop (9 * r) t) (omega arith)
 pub put-turn : (k : ℕ) (t₀ : List ℕ) (r : ℕ) (c t : List ℕ) → t ≡ put k t₀ r c → set t (9 * r + k) (getD c k 0) ≡ put (k + 1) t₀ r c
 unfolding put setCell
 put-turn k t₀ r c t e = rw (add-one, e)
-
--- a constant goes to share 0 only
-pub constant-first : (i c : ℕ) → i ≡ 0 → c ≡ constant i c
-unfolding constant
-constant-first i c e = rw e
-
-pub constant-other : (i c : ℕ) → (i ≡ 0 → ⊥) → 0 ≡ constant i c
-unfolding constant
-constant-other zero c h = absurd (h refl)
-constant-other (suc i) c h = refl
 
 -- the places of the record: polynomial j of m coefficients ends within it, where j is below q
 pub place-within : (k : ℕ) {j q l : ℕ} → j < q → 6 + q * (k + 1) ≤ l → 6 + j * (k + 1) + k < l

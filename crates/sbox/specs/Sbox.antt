@@ -10,7 +10,7 @@ use Rattle.field.specs.Polynomial.{exponents}
 use Rattle.steps.specs.Program.{Run, return, one, _>>=_, note, for}
 use Rattle.steps.specs.Sharing.{share}
 use Rattle.product.specs.Product.{product}
-use Rattle.product.specs.ByShare.{byShare, nth, squares}
+use Rattle.product.specs.ByShare.{byShare, constant, nth, squares}
 
 -- ---- the powers of x
 
@@ -34,11 +34,6 @@ powers n s x = do
   classesAfter n s (factors n) xs
 
 -- ---- polynomials of x
-
--- a constant goes to share 0 only
-unfoldable pub constant : ℕ → ℕ → ℕ
-constant zero c = c
-constant (suc i) c = 0
 
 -- the term of exponent number r + 1, for share i: its product, and the sum with what is there
 unfoldable pub term : ℕ → List ℕ → List (List ℕ) → ℕ → ℕ → ℕ → Run ℕ

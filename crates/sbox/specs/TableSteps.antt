@@ -9,8 +9,8 @@ use Rattle.xor.specs.Xor.{_⊕_}
 use Rattle.field.specs.Mul.{mul}
 use Rattle.steps.specs.Program.{Run, return, one, _>>=_, note, for}
 use Rattle.product.specs.Product.{product}
-use Rattle.sbox.specs.Sbox.{factors, constant}
-use Rattle.product.specs.ByShare.{byShare}
+use Rattle.sbox.specs.Sbox.{factors}
+use Rattle.product.specs.ByShare.{byShare, constant}
 use Rattle.sbox.specs.Table.{cell, setCell, row, put}
 
 -- ---- powers

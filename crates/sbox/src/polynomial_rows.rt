@@ -1,20 +1,11 @@
 // Polynomials of x, whose powers are the first rows. The coefficients are those of the record, from its byte 6 on.
-ghost use mathlib.Core.Path.{_≡_};
 ghost use Prim.Native.Nat.{_+_, _*_, _<_, _≤_};
 ghost use lib.ListN.{length};
 ghost use Rattle.decomposition.specs.Layout.{Known};
 ghost use Rattle.steps.specs.Machine.{ReadySteps, WentSteps};
 ghost use Rattle.steps.specs.Program.{for};
-ghost use Rattle.sbox.specs.Sbox as sbox;
 ghost use Rattle.sbox.specs.TableSteps as spec;
 use crate::partial::Partial;
-
-// The constant c goes to share 0 only.
-fn constant(i: usize, c: u8) -> u8
-    ensures { λ r. ⌜ r ≡ sbox.constant i c ⌝ }
-{
-    if i == 0 { c } else { 0 }
-}
 
 // The term of row r of the polynomial at place p of the record, for share i, is added to the sum u.
 fn term(
@@ -92,7 +83,7 @@ fn polynomial_share(
         (spec.polynomialShare width k (now (rec .entry)) p z i (now (t .entry)))
         n (now (values .entry)) (now (t .exit)) w (now (values .exit)) ⌝ }
 {
-    let c = constant(i, rec[p]);
+    let c = product::constant(i, rec[p]);
     let u = Partial { value: c, step: n };
     let u = terms(width, k, rec, p, i, watch, values, &*t, u);
     let v = u.value;

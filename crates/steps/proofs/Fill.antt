@@ -1,12 +1,12 @@
 -- The laws of lists given by a function, and of buffers that are filled.
-use mathlib.Core.Path.{_≡_, refl, ap, ap₂}
+use mathlib.Core.Path.{_≡_, refl, ap, ap₂, _∙_}
 use mathlib.Core.List.{List, [], _∷_, _++_, append-nil, append-assoc}
-use Prim.Native.Nat.{ℕ, zero, suc, _+_, _≤_, _<_}
+use Prim.Native.Nat.{ℕ, zero, suc, _+_, _-_, _≤_, _<_}
 use native.Mathlib.Nat.{not-suc-le-zero, le-of-suc-le-suc}
 use native.Mathlib.Numerals.{add-one}
 use native.Mathlib.Omega.{arith}
-use lib.ListN.{length, getD, drop, set, length-append, length-drop, drop-of-length-le}
-use lib.Seq.{drop-cons, set-at, take-at, take-length, paste}
+use lib.ListN.{length, getD, drop, set, length-append, length-drop, drop-of-length-le, List·getD-append}
+use lib.Seq.{drop-cons, set-at, take-at, take-length, paste, getD-append-add, getD-drop}
 use Rattle.steps.specs.Fill.{tabulate, fill}
 
 module _ {B : Type 0} where
@@ -57,6 +57,22 @@ fill-more n f l h =
 pub fill-all : (n : ℕ) (f : ℕ → ℕ) (l : List ℕ) → length l ≤ n → fill n f l ≡ tabulate n f
 unfolding fill
 fill-all n f l h = rw (drop-of-length-le l h, append-nil)
+
+-- what stands at a place of a buffer that is filled to n
+pub getD-fill : (n : ℕ) (f : ℕ → ℕ) (l : List ℕ) (i d : ℕ) → i < n → getD (fill n f l) i d ≡ f i
+unfolding fill
+getD-fill n f l i d h =
+    List·getD-append (tabulate n f) (drop n l) d i (omega (arith, length-tabulate n f)) ∙ getD-tabulate n f i d h
+
+pub getD-fill-past : (n : ℕ) (f : ℕ → ℕ) (l : List ℕ) (i d : ℕ) → n ≤ i → getD (fill n f l) i d ≡ getD l i d
+unfolding fill
+getD-fill-past n f l i d h =
+    let e : i ≡ length (tabulate n f) + (i - n) = omega (arith, length-tabulate n f) in
+    let back : n + (i - n) ≡ i = omega arith in
+    ap (λ (p : ℕ). getD (tabulate n f ++ drop n l) p d) e
+    ∙ getD-append-add (tabulate n f) (drop n l) (i - n) d
+    ∙ getD-drop n l (i - n) d
+    ∙ ap (λ (p : ℕ). getD l p d) back
 
 -- a buffer that is filled to n, and whose rest is a copy of another list
 pub fill-paste : (n : ℕ) (f : ℕ → ℕ) (l m : List ℕ) → n + length m ≡ length l → paste (fill n f l) n m (length m) ≡ tabulate n f ++ m

@@ -3,6 +3,7 @@ pub mod Fill
 pub mod Program
 pub mod Choices
 pub mod Shape
+pub mod Iterate
 pub mod Watch
 pub mod Coupling
 pub mod Lockstep
@@ -10,6 +11,7 @@ pub mod Sharing
 pub mod ShareWise
 pub mod Splits
 pub mod Secrecy
+pub mod TwoSecrets
 pub mod Recorder
 pub mod Tape
 pub mod Machine

@@ -152,6 +152,22 @@ pub join-accepts : (shares s out : ℕ) → 0 < s → s ≤ 9 → 0 < out → ou
 unfolding joinOutcome
 join-accepts shares s out some nine long few e = rw (in-range 9 s some nine, join-lengths-right shares s out (in-range 16 out long few) e)
 
+-- ---- a value of w bytes, split
+
+module _ (w s : ℕ) (some : 0 < s) (value masks : List ℕ) (bytes : length value ≡ w) (masked : length masks ≡ (s - 1) * w) where
+  -- how many bytes Split writes,
+  pub split-length : length (splitShares s value masks) ≡ s * w
+  split-length = length-split s value masks some (rw bytes masked) ∙ ap (λ (k : ℕ). s * k) bytes
+
+  -- that it accepts the call,
+  pub split-accepted : s ≤ 9 → 0 < w → w ≤ 16 → splitOutcome (length value) s (length masks) (length (splitShares s value masks)) ≡ done []
+  split-accepted nine long short =
+      rw bytes (split-accepts w s (length masks) (length (splitShares s value masks)) some nine long short masked split-length)
+
+  -- and that Join gives the value again
+  pub split-joined : joinShares w s (splitShares s value masks) ≡ value
+  split-joined = ap (λ (k : ℕ). joinShares k s (splitShares s value masks)) (sym bytes) ∙ join-of-split s value masks some
+
 -- ---- values of one byte
 
 -- byte 0 of each of k strings of one byte: the strings themselves

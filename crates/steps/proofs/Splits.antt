@@ -12,7 +12,7 @@ use Rattle.xor.specs.Sum.{join, Small}
 use Rattle.xor.proofs.Xor.{⊕-lt, ⊕-zero, xor}
 use Rattle.xor.proofs.Sum.{small-head, small-tail, small-cons, join-nil, join-cons, join-small, join-split}
 use Rattle.steps.specs.Program.{Run, return, _>>=_, random, first, later, trace}
-use Rattle.steps.specs.Shape.{drawOf, Shape, touchesOf, bitsOf, Shaped, shaped-return, shaped-draw}
+use Rattle.steps.specs.Shape.{drawOf, touchesOf, bitsOf, Shaped, shaped-return, shaped-draw}
 use Rattle.steps.specs.Coupling.{Coupled, coupled-return, coupled-draw}
 use Rattle.steps.specs.Sharing.{Sharing, Close, CloseAll, close-nil, close-cons}
 use Rattle.steps.specs.Split.{masks, split, splitAll}
@@ -129,22 +129,6 @@ coupled-split n s x y (suc p) hx hy l =
     coupled-bind (moved-masks n (suc p) (s - 1) p (x ⊕ y) (⊕-lt n hx hy) (omega arith)) λ a b e.
     let same : x ⊕ join a ≡ y ⊕ join b = rw (e .moved) (simp xor) in
     coupled-return (close-tail same (⊕-lt n hx (join-small n a (e .close .small))) (e .close))
-
--- ---- two secrets, of m and of n bits, split one after the other
-
-module _ {A : Type 0} (m n s : ℕ) {f : List ℕ → List ℕ → Run A} where
-  pub shaped-split-two : {P : A → Type 0} {σ : Shape} (x y : ℕ) → 0 < s → x < 2 ^ m → y < 2 ^ n
-      → ((a b : List ℕ) → Sharing m s x a → Sharing n s y b → Shaped P σ (f a b))
-      → Shaped P (replicate (s - 1) (drawOf m) ++ (replicate (s - 1) (drawOf n) ++ σ)) (split m s x >>= (λ a. split n s y >>= (λ b. f a b)))
-  shaped-split-two x y l hx hy h =
-      shaped-bind (shaped-split m s x l hx) (λ a ha. shaped-bind (shaped-split n s y l hy) (λ b hb. h a b ha hb))
-
-  pub coupled-split-two : {B : Type 0} {g : List ℕ → List ℕ → Run B} {R : A → B → Type 0} (u x x′ y y′ : ℕ) → u < s
-      → x < 2 ^ m → x′ < 2 ^ m → y < 2 ^ n → y′ < 2 ^ n
-      → ((a a′ b b′ : List ℕ) → Close m u a a′ → Close n u b b′ → Coupled u R (f a b) (g a′ b′))
-      → Coupled u R (split m s x >>= (λ a. split n s y >>= (λ b. f a b))) (split m s x′ >>= (λ a. split n s y′ >>= (λ b. g a b)))
-  coupled-split-two u x x′ y y′ l hx hx′ hy hy′ h =
-      coupled-bind (coupled-split m s x x′ u hx hx′ l) (λ a a′ ha. coupled-bind (coupled-split n s y y′ u hy hy′ l) (λ b b′ hb. h a a′ b b′ ha hb))
 
 -- ---- several secrets of n bits, split one after the other
 

@@ -4,6 +4,7 @@ use mathlib.Core.List.{List}
 use Prim.Native.Nat.{ℕ, _+_, _≤_}
 use native.Mathlib.Omega.{arith}
 use lib.ListN.{length}
+use Rattle.xor.specs.Sum.{Small}
 use Rattle.steps.specs.Tape.{elements, bytesFor}
 
 -- as many bytes as hold so many elements give them
@@ -20,6 +21,11 @@ elements-few width bytes count e = omega arith
 pub elements-length : (width : ℕ) (bytes others : List ℕ) → length bytes ≡ length others → length (elements width bytes) ≡ length (elements width others)
 unfolding elements
 elements-length width bytes others e = e
+
+-- elements of 8 bits are bytes
+pub elements-bytes : (bytes : List ℕ) → Small 8 bytes → Small 8 (elements 8 bytes)
+unfolding elements
+elements-bytes bytes h = h
 
 -- ---- the bytes that hold so many elements, and the elements
 

@@ -1,4 +1,5 @@
 pub mod Program
+pub mod Iterate
 pub mod Watch
 pub mod Choices
 pub mod Shape
@@ -6,6 +7,7 @@ pub mod Sharing
 pub mod Linear
 pub mod Coupling
 pub mod Split
+pub mod TwoSecrets
 pub mod Recorder
 pub mod Tape
 pub mod Machine

@@ -2,10 +2,10 @@
 use mathlib.Core.Path.{refl}
 use native.Mathlib.Omega.{arith}
 use Rattle.cipher.specs.Figures.{blockDraws}
-use Rattle.sbox.proofs.Calls.{few-pairs}
 use borrow.Author.Needs.{needs}
 use Rattle.cipher.proofs.figures.draw_count.Statement.{statement}
 use Rattle.cipher.proofs.figures.draw_count.Tie as tie
+use Rattle.product.proofs.Counts.{few-pairs}
 
 sub-result : tie.Need-sub-result
 sub-result c = search needs

@@ -3,9 +3,9 @@ use native.Mathlib.Omega.{arith}
 use borrow.Author.Needs.{needs}
 use Rattle.decomposition.proofs.Sizes.{known-6}
 use Rattle.sbox.specs.Figures.{sboxDraws}
-use Rattle.sbox.proofs.Calls.{few-pairs}
 use Rattle.sbox.proofs.figures.draw_count.Statement.{statement}
 use Rattle.sbox.proofs.figures.draw_count.Tie as tie
+use Rattle.product.proofs.Counts.{few-pairs}
 
 sub-result : tie.Need-sub-result
 sub-result c = search needs

@@ -1,8 +1,8 @@
--- `constant` meets its contract.
+-- `product::constant` meets its contract.
 use borrow.Author.Needs.{needs}
-use Rattle.sbox.proofs.TableRuns.{constant-first, constant-other}
-use Rattle.sbox.proofs.polynomial_rows.constant.Statement.{statement}
-use Rattle.sbox.proofs.polynomial_rows.constant.Tie as tie
+use Rattle.product.proofs.ByShare.{constant-first, constant-other}
+use Rattle.product.proofs.constant.Statement.{statement}
+use Rattle.product.proofs.constant.Tie as tie
 
 returns : tie.Need-returns
 returns c = search (needs, constant-first)

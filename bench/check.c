@@ -1,4 +1,4 @@
-// The self-test of the plain C: worked examples, joined values, and the published vectors of PRESENT-80.
+// The self-test of the plain C: worked examples, joined values, and the published vectors of PRESENT-80 and AES-128.
 #include "check.h"
 #include "inputs.h"
 #include <string.h>
@@ -117,6 +117,31 @@ static int block_vectors(const struct plain *p, size_t s, const uint8_t *record)
     return 1;
 }
 
+// FIPS 197, appendix C.1, without masking and in random shares.
+static int aes_vector(const struct plain *p, size_t s)
+{
+    static const uint8_t sealed[16] = {0x69, 0xc4, 0xe0, 0xd8, 0x6a, 0x7b, 0x04, 0x30, 0xd8, 0xcd, 0xb7, 0x80, 0x70, 0xb4, 0xc5, 0x5a};
+    static uint8_t random[400 * SHARES * (SHARES - 1)];
+    uint8_t key[16 * SHARES], block[16 * SHARES], out[16 * SHARES], plain_key[16], plain_block[16];
+    size_t n = 400 * s * (s - 1);
+    fill_below(256, key, 16 * s);
+    fill_below(256, block, 16 * s);
+    fill_below(256, random, n);
+    for (size_t i = 0; i < 16; i++) {
+        plain_key[i] = (uint8_t)i;
+        plain_block[i] = (uint8_t)(17 * i);
+        key[i] ^= join(key + i, s, 16) ^ plain_key[i];
+        block[i] ^= join(block + i, s, 16) ^ plain_block[i];
+    }
+    if (p->aes_block(s, key, 16 * s, block, 16 * s, random, n, out, 16 * s) != 0)
+        return 0;
+    for (size_t i = 0; i < 16; i++)
+        if (join(out + i, s, 16) != sealed[i])
+            return 0;
+    p->aes(plain_key, plain_block, out);
+    return memcmp(out, sealed, 16) == 0;
+}
+
 const char *check_plain(const struct plain *p)
 {
     uint8_t record_4[RECORD_4], given_6[RECORD_6], record_6[RECORD_6], table_6[ELEMENTS_6];
@@ -136,6 +161,8 @@ const char *check_plain(const struct plain *p)
             return "the joined masked S-box";
         if (!block_vectors(p, s, record_4))
             return "the vectors of masked PRESENT-80";
+        if (!aes_vector(p, s))
+            return "the vector of AES-128";
     }
     return NULL;
 }

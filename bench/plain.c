@@ -8,7 +8,7 @@
 
 typedef uint8_t element;
 
-// ---- the field of 2^n elements, n = 4 or 6, reduced by y^n + y + 1
+// ---- the field of 2^n elements, n = 4, 6 or 8, reduced by y^n + y + 1, at 8 by y^8 + y^4 + y^3 + y + 1
 
 // The product by double and add, the lowest bit of b first.
 INLINE element mul(unsigned n, element a, element b)
@@ -16,7 +16,7 @@ INLINE element mul(unsigned n, element a, element b)
     element sum = 0;
     for (unsigned k = 0; k < n; k++) {
         sum ^= a * (b >> k & 1);
-        a = (element)(a << 1 & ((1 << n) - 1)) ^ (a >> (n - 1)) * 3;
+        a = (element)(a << 1 & ((1 << n) - 1)) ^ (a >> (n - 1)) * (n == 8 ? 27 : 3);
     }
     return sum;
 }
@@ -322,6 +322,164 @@ static refusal plain_block(const uint8_t *record, size_t record_len, size_t s, c
     return 0;
 }
 
+// ---- AES-128
+
+// v rotated left by k bits.
+INLINE element rotated(element v, unsigned k)
+{
+    return (element)(v << k | v >> (8 - k));
+}
+
+// The affine map without its constant.
+INLINE element linear_map(element v)
+{
+    return v ^ rotated(v, 1) ^ rotated(v, 2) ^ rotated(v, 3) ^ rotated(v, 4);
+}
+
+INLINE void square_all(size_t s, const element *restrict a, element *restrict b)
+{
+    for (size_t i = 0; i < s; i++)
+        b[i] = mul(8, a[i], a[i]);
+}
+
+// The masked S-box of the sharing x: x^254 = ((x^16 x^34) x^68) x^136, and the affine map. Returns the random elements that are left.
+static const element *substitute_8(size_t s, const element *x, const element *random, element *out)
+{
+    element p[12][SHARES];
+    square_all(s, x, p[0]);
+    square_all(s, p[0], p[1]);
+    square_all(s, p[1], p[2]);
+    square_all(s, p[2], p[3]);
+    random = multiply(8, s, x, p[3], random, p[4]);
+    square_all(s, p[4], p[5]);
+    square_all(s, p[5], p[6]);
+    square_all(s, p[6], p[7]);
+    random = multiply(8, s, p[3], p[5], random, p[8]);
+    random = multiply(8, s, p[8], p[6], random, p[9]);
+    random = multiply(8, s, p[9], p[7], random, p[10]);
+    for (size_t i = 0; i < s; i++)
+        out[i] = linear_map(p[10][i]) ^ (i == 0 ? 0x63 : 0);
+    return random;
+}
+
+// The S-box on each of the m bytes of a string in shares.
+INLINE const element *sub_bytes(size_t s, uint8_t *a, size_t m, const element *random)
+{
+    element x[SHARES], y[SHARES];
+    for (size_t j = 0; j < m; j++) {
+        for (size_t i = 0; i < s; i++)
+            x[i] = a[i * m + j];
+        random = substitute_8(s, x, random, y);
+        for (size_t i = 0; i < s; i++)
+            a[i * m + j] = y[i];
+    }
+    return random;
+}
+
+INLINE void shift_rows(const uint8_t *restrict a, uint8_t *restrict b)
+{
+    for (unsigned j = 0; j < 16; j++)
+        b[j] = a[j % 4 + 4 * ((j / 4 + j % 4) % 4)];
+}
+
+INLINE element twice(element v)
+{
+    return (element)(v << 1) ^ (v >> 7) * 27;
+}
+
+INLINE void mix_columns(const uint8_t *restrict a, uint8_t *restrict b)
+{
+    for (unsigned j = 0; j < 16; j++) {
+        const uint8_t *column = a + j / 4 * 4;
+        element next = column[(j + 1) % 4];
+        b[j] = twice(a[j]) ^ (twice(next) ^ next) ^ column[(j + 2) % 4] ^ column[(j + 3) % 4];
+    }
+}
+
+INLINE void add_bytes(uint8_t *restrict a, const uint8_t *restrict b, size_t n)
+{
+    for (size_t k = 0; k < n; k++)
+        a[k] ^= b[k];
+}
+
+static refusal plain_aes_block(size_t s, const uint8_t *key, size_t key_len, const uint8_t *block, size_t block_len,
+    const uint8_t *random, size_t random_len, uint8_t *out, size_t out_len)
+{
+    if (s < 1 || s > SHARES)
+        return 7;
+    if (key_len != 16 * s || block_len != 16 * s || random_len != 400 * s * (s - 1) || out_len != 16 * s)
+        return 2;
+    uint8_t w[SHARES][176], state[SHARES * 16], next[SHARES * 16], word[SHARES * 4];
+    for (size_t i = 0; i < s; i++)
+        memcpy(w[i], key + 16 * i, 16);
+    element constant = 1;
+    for (size_t r = 1; r <= 10; r++, constant = twice(constant)) {
+        for (size_t i = 0; i < s; i++)
+            for (size_t j = 0; j < 4; j++)
+                word[4 * i + j] = w[i][16 * r - 4 + (j + 1) % 4];
+        random = sub_bytes(s, word, 4, random);
+        word[0] ^= constant;
+        for (size_t t = 0; t < 4; t++)
+            for (size_t i = 0; i < s; i++)
+                for (size_t j = 0; j < 4; j++)
+                    w[i][16 * r + 4 * t + j] = word[4 * i + j] ^= w[i][16 * r - 16 + 4 * t + j];
+    }
+    memcpy(state, block, 16 * s);
+    for (size_t i = 0; i < s; i++)
+        add_bytes(state + 16 * i, w[i], 16);
+    for (size_t r = 1; r <= 10; r++) {
+        random = sub_bytes(s, state, 16, random);
+        for (size_t i = 0; i < s; i++)
+            shift_rows(state + 16 * i, next + 16 * i);
+        if (r < 10)
+            for (size_t i = 0; i < s; i++)
+                mix_columns(next + 16 * i, state + 16 * i);
+        else
+            memcpy(state, next, 16 * s);
+        for (size_t i = 0; i < s; i++)
+            add_bytes(state + 16 * i, w[i] + 16 * r, 16);
+    }
+    memcpy(out, state, 16 * s);
+    return 0;
+}
+
+static uint8_t aes_table[256];
+
+static void plain_aes(const uint8_t key[16], const uint8_t block[16], uint8_t out[16])
+{
+    if (aes_table[0] == 0)
+        for (unsigned v = 0; v < 256; v++)
+            aes_table[v] = linear_map(inverse(8, (element)v)) ^ 0x63;
+    uint8_t w[176], state[16], next[16];
+    memcpy(w, key, 16);
+    element constant = 1;
+    for (size_t k = 16; k < 176; k += 4) {
+        uint8_t temp[4];
+        memcpy(temp, w + k - 4, 4);
+        if (k % 16 == 0) {
+            for (size_t j = 0; j < 4; j++)
+                temp[j] = aes_table[w[k - 4 + (j + 1) % 4]];
+            temp[0] ^= constant;
+            constant = twice(constant);
+        }
+        for (size_t j = 0; j < 4; j++)
+            w[k + j] = w[k - 16 + j] ^ temp[j];
+    }
+    memcpy(state, block, 16);
+    add_bytes(state, w, 16);
+    for (size_t r = 1; r <= 10; r++) {
+        for (size_t j = 0; j < 16; j++)
+            state[j] = aes_table[state[j]];
+        shift_rows(state, next);
+        if (r < 10)
+            mix_columns(next, state);
+        else
+            memcpy(state, next, 16);
+        add_bytes(state, w + 16 * r, 16);
+    }
+    memcpy(out, state, 16);
+}
+
 // ---- Fit
 
 // The powers of x in the order of the exponent list: 1; x, x^2, x^4 ..; x^3 and its squares; at width 6 x^11 and its squares.
@@ -440,4 +598,4 @@ static refusal plain_fit(unsigned width, const uint8_t *table, size_t table_len,
     return 1;
 }
 
-const struct plain PLAIN = {NAME, plain_product, plain_sbox, plain_block, plain_fit, plain_present};
+const struct plain PLAIN = {NAME, plain_product, plain_sbox, plain_block, plain_aes_block, plain_fit, plain_present, plain_aes};

@@ -30,12 +30,19 @@ struct plain {
     refusal (*block)(const uint8_t *record, size_t record_len, size_t s, const uint8_t *key, size_t key_len,
         const uint8_t *block, size_t block_len, const uint8_t *random, size_t random_len, uint8_t *out, size_t out_len);
 
+    // Masked AES-128 of one block.
+    refusal (*aes_block)(size_t s, const uint8_t *key, size_t key_len, const uint8_t *block, size_t block_len,
+        const uint8_t *random, size_t random_len, uint8_t *out, size_t out_len);
+
     // The record of a table over a basis. `work` is all zero afterwards.
     refusal (*fit)(unsigned width, const uint8_t *table, size_t table_len, const uint8_t *basis, size_t basis_len,
         uint8_t *work, size_t work_len, uint8_t *record, size_t record_len);
 
     // PRESENT-80 of one block, without masking.
     void (*present)(const uint8_t key[10], const uint8_t block[8], uint8_t out[8]);
+
+    // AES-128 of one block, without masking.
+    void (*aes)(const uint8_t key[16], const uint8_t block[16], uint8_t out[16]);
 };
 
 #endif

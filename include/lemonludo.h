@@ -1,4 +1,4 @@
-// The C interface of Lemonludo: masked S-boxes and masked PRESENT-80 over decompositions. For x86-64 Linux, with libcapi.a
+// The C interface of Lemonludo: masked S-boxes and masked PRESENT-80 over decompositions, and masked AES-128. For x86-64 Linux, with libcapi.a
 // (interface/README.md says how to build and link it; docs/FORMATS.md has the layout of records and sharings and the numbering of steps).
 //
 // Slices. A slice is a pointer and the number of its elements. What is lent for writing (not const) must overlap nothing else that is
@@ -8,9 +8,9 @@
 // The answer. Each call writes all four words:
 //   answer[0]  0 for done, else the number of the refusal
 //   answer[1]  after a refusal its place, 0 unless one is named below; after done the width (ll_read),
-//              or how many products were taken (ll_sbox, ll_sbox_watch, ll_block, ll_block_watch)
-//   answer[2]  after done how many random bytes were taken (the same four)
-//   answer[3]  after done how many steps were taken (the same four)
+//              or how many products were taken (ll_sbox, ll_block, ll_aes_block and their watches)
+//   answer[2]  after done how many random bytes were taken (the same six)
+//   answer[3]  after done how many steps were taken (the same six)
 // A word not in use is 0.
 //
 // Refusals. Each function lists its tests in the order in which they run; the first that fails is the answer, and nothing else is
@@ -89,6 +89,19 @@ void ll_block(const uint8_t *record, size_t record_len, uint32_t s, const uint8_
 // Watch block: as ll_block, with list and values as in ll_sbox_watch.
 // Refuses: as ll_block, with 2 also for a list over 64 numbers or values of another length; last, 8 as in ll_sbox_watch.
 void ll_block_watch(const uint8_t *record, size_t record_len, uint32_t s, const uint8_t *key_shares, size_t key_shares_len,
+    const uint8_t *block_shares, size_t block_shares_len, const uint8_t *random, size_t random_len,
+    const uint32_t *list, size_t list_len, uint8_t *values, size_t values_len, uint64_t answer[4]);
+
+// AES block: masked AES-128 (FIPS 197) of one block. Key shares, block shares and out have 16s bytes, random 400s(s-1), every byte an element.
+// Hands back products, random bytes and steps.
+// Refuses: 7 s not 1 to 9; 2 any length wrong.
+void ll_aes_block(uint32_t s, const uint8_t *key_shares, size_t key_shares_len,
+    const uint8_t *block_shares, size_t block_shares_len, const uint8_t *random, size_t random_len,
+    uint8_t *out, size_t out_len, uint64_t answer[4]);
+
+// Watch AES block: as ll_aes_block, with list and values as in ll_sbox_watch.
+// Refuses: as ll_aes_block, with 2 also for a list over 64 numbers or values of another length; last, 8 as in ll_sbox_watch.
+void ll_aes_block_watch(uint32_t s, const uint8_t *key_shares, size_t key_shares_len,
     const uint8_t *block_shares, size_t block_shares_len, const uint8_t *random, size_t random_len,
     const uint32_t *list, size_t list_len, uint8_t *values, size_t values_len, uint64_t answer[4]);
 

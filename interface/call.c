@@ -44,7 +44,7 @@ static const uint8_t present_record[34] = {'D', 'C', 'P', 0, 1, 4, 0, 1, 1, 0, 0
 static const uint8_t identity_record_4[34] = {'D', 'C', 'P', 0, 1, 4, [25] = 1};
 static const uint8_t identity_record_6[140] = {'D', 'C', 'P', 0, 1, 6, [121] = 1};
 
-static uint8_t identity_table[65], fill[6145], elements[37945], key_masks[80], block_masks[64];
+static uint8_t identity_table[65], fill[6145], elements[37945], random_bytes[28801], key_masks[128], block_masks[128];
 
 static void set_up(void)
 {
@@ -53,6 +53,8 @@ static void set_up(void)
         identity_table[i] = (uint8_t)i;
     for (size_t i = 0; i < sizeof elements; i++)
         elements[i] = (uint8_t)((7 * i + 3) % 16);
+    for (size_t i = 0; i < sizeof random_bytes; i++)
+        random_bytes[i] = (uint8_t)(59 * i + i / 251 + 7);
     for (size_t i = 0; i < sizeof key_masks; i++)
         key_masks[i] = (uint8_t)(37 * i + 11);
     for (size_t i = 0; i < sizeof block_masks; i++)
@@ -470,14 +472,22 @@ static const struct {
 static const uint8_t block_out[24] = {0x1e, 0xbb, 0xc4, 0x7c, 0x82, 0x8c, 0xf3, 0x3e, //
     0xd5, 0xd5, 0xaa, 0x28, 0xd4, 0x1e, 0x16, 0xb1, 0x2c, 0x42, 0x28, 0x94, 0xa3, 0x06, 0xb5, 0xc6};
 
-// A value of n equal bytes in s shares: share 0 is the value plus the masks.
-static void share(uint8_t byte, size_t n, size_t s, const uint8_t *masks, uint8_t *shares)
+// A value of n bytes in s shares: share 0 is the value plus the masks.
+static void share_value(const uint8_t *value, size_t n, size_t s, const uint8_t *masks, uint8_t *shares)
 {
-    memset(shares, byte, n);
+    memcpy(shares, value, n);
     for (size_t i = 0; i < n * (s - 1); i++) {
         shares[n + i] = masks[i];
         shares[i % n] ^= masks[i];
     }
+}
+
+// The same for up to 16 equal bytes.
+static void share(uint8_t byte, size_t n, size_t s, const uint8_t *masks, uint8_t *shares)
+{
+    uint8_t value[16];
+    memset(value, byte, sizeof value);
+    share_value(value, n, s, masks, shares);
 }
 
 static uint8_t nibble(const uint8_t *eight, unsigned k)
@@ -585,6 +595,152 @@ static void test_block_watch(void)
     expect(&op, "NULL list", 3, slices, counts, NULL);
 }
 
+// ---- AES block and its watch
+
+enum { AES_PRODUCTS = 800, AES_RANDOM = 2400, AES_STEPS = 26050 }; // with three shares
+
+// Key, block and ciphertext of FIPS 197, appendices B and C.1.
+static const struct {
+    uint8_t key[16], block[16], ciphertext[16];
+} aes_vectors[] = {
+    {{0x2b, 0x7e, 0x15, 0x16, 0x28, 0xae, 0xd2, 0xa6, 0xab, 0xf7, 0x15, 0x88, 0x09, 0xcf, 0x4f, 0x3c},
+        {0x32, 0x43, 0xf6, 0xa8, 0x88, 0x5a, 0x30, 0x8d, 0x31, 0x31, 0x98, 0xa2, 0xe0, 0x37, 0x07, 0x34},
+        {0x39, 0x25, 0x84, 0x1d, 0x02, 0xdc, 0x09, 0xfb, 0xdc, 0x11, 0x85, 0x97, 0x19, 0x6a, 0x0b, 0x32}},
+    {{0x00, 0x01, 0x02, 0x03, 0x04, 0x05, 0x06, 0x07, 0x08, 0x09, 0x0a, 0x0b, 0x0c, 0x0d, 0x0e, 0x0f},
+        {0x00, 0x11, 0x22, 0x33, 0x44, 0x55, 0x66, 0x77, 0x88, 0x99, 0xaa, 0xbb, 0xcc, 0xdd, 0xee, 0xff},
+        {0x69, 0xc4, 0xe0, 0xd8, 0x6a, 0x7b, 0x04, 0x30, 0xd8, 0xcd, 0xb7, 0x80, 0x70, 0xb4, 0xc5, 0x5a}},
+};
+
+// The shares that the first of them gives in three shares, with the masks and random bytes set up above.
+static const uint8_t aes_out[48] = {0x18, 0x8b, 0xe5, 0x39, 0x97, 0xdf, 0x28, 0x1a, 0xde, 0x55, 0x6c, 0xae, 0xaa, 0xe1, 0x27, 0x9b, //
+    0xc5, 0x69, 0x39, 0x2b, 0x43, 0xeb, 0xb4, 0xc9, 0x6d, 0x7b, 0xb7, 0x08, 0xa1, 0xe1, 0x44, 0x3c, //
+    0xe4, 0xc7, 0x58, 0x0f, 0xd6, 0xe8, 0x95, 0x28, 0x6f, 0x3f, 0x5e, 0x31, 0x12, 0x6a, 0x68, 0x95};
+
+static void share_vector(unsigned v, size_t s, uint8_t *key, uint8_t *block)
+{
+    share_value(aes_vectors[v].key, 16, s, key_masks, key);
+    share_value(aes_vectors[v].block, 16, s, block_masks, block);
+}
+
+static size_t aes_random(size_t s)
+{
+    return 400 * s * (s - 1);
+}
+
+static struct answer aes_counts(uint32_t s)
+{
+    return done(AES_PRODUCTS, aes_random(s), 3080 * s + 2800 * s * (s - 1) + 10);
+}
+
+static void call_aes_block(uint32_t number, void *const *at, const size_t *len, uint64_t *answer)
+{
+    ll_aes_block(number, at[0], len[0], at[1], len[1], at[2], len[2], at[3], len[3], answer);
+}
+
+// The vectors in 1 to 9 shares.
+static void aes_block_vectors(const struct operation *op)
+{
+    uint8_t key[144], block[144];
+    for (unsigned v = 0; v < 2; v++) {
+        for (uint32_t s = 1; s <= 9; s++) {
+            const struct slice slices[] = {bytes(key, 16 * s), bytes(block, 16 * s), bytes(random_bytes, aes_random(s)), space(16 * s)};
+            share_vector(v, s, key, block);
+            expect_shared(op, "published vector", s, slices, aes_counts(s), aes_vectors[v].ciphertext);
+        }
+        const struct slice one[] = {bytes(aes_vectors[v].key, 16), bytes(aes_vectors[v].block, 16), null(), space(16)};
+        expect(op, "one share, random NULL", 1, one, done(AES_PRODUCTS, 0, 3090), aes_vectors[v].ciphertext);
+    }
+}
+
+static void test_aes_block(void)
+{
+    static const struct operation op = {"ll_aes_block", 4, 1, call_aes_block};
+    uint8_t key[49] = {0}, block[49] = {0};
+    const struct slice slices[] = {bytes(key, 48), bytes(block, 48), bytes(random_bytes, AES_RANDOM), space(48)};
+    share_vector(0, 3, key, block);
+    expect(&op, "three shares", 3, slices, done(AES_PRODUCTS, AES_RANDOM, AES_STEPS), aes_out);
+    wrong_share_counts(&op, slices);
+    wrong_lengths(&op, 3, slices);
+    const struct slice uneven[] = {bytes(key, 47), bytes(block, 49), slices[2], slices[3]};
+    expect(&op, "key one short, block one long", 3, uneven, refused(LL_LENGTH, 0), NULL);
+    const struct slice none[] = {null(), null(), null(), null()};
+    expect(&op, "no shares, all slices NULL", 0, none, refused(LL_SHARE_COUNT, 0), NULL);
+    aes_block_vectors(&op);
+}
+
+static void call_aes_block_watch(uint32_t number, void *const *at, const size_t *len, uint64_t *answer)
+{
+    ll_aes_block_watch(number, at[0], len[0], at[1], len[1], at[2], len[2], at[3], len[3], at[4], len[4], answer);
+}
+
+// In 1 to 9 shares the first seven bytes of the result, which in each share are the first of its last 16 steps.
+static void aes_watch_vectors(const struct operation *op)
+{
+    uint8_t key[144], block[144];
+    uint32_t list[63];
+    for (uint32_t s = 1; s <= 9; s++) {
+        const struct answer counts = aes_counts(s);
+        for (uint32_t k = 0; k < 7 * s; k++)
+            list[k] = (uint32_t)counts.words[3] - 16 * (s - k / 7) + k % 7;
+        const struct slice slices[] = {bytes(key, 16 * s), bytes(block, 16 * s), bytes(random_bytes, aes_random(s)), //
+            numbers(list, 7 * s), space(7 * s)};
+        share_vector(1, s, key, block);
+        expect_shared(op, "seven bytes of the result", s, slices, counts, aes_vectors[1].ciphertext);
+    }
+}
+
+// 64 steps of the first vector in three shares, and their values: the last 48 are the bytes of the result, the first 12 those of RotWord, which
+// come from the last word of the key; then the random bytes, at the first step of each pair of the first masked product; and a repeat.
+static void aes_steps_shown(const uint8_t *key, uint32_t *list, uint8_t *values)
+{
+    for (unsigned k = 0; k < 48; k++) {
+        list[k] = AES_STEPS - 48 + k;
+        values[k] = aes_out[k];
+    }
+    for (unsigned k = 0; k < 12; k++) {
+        list[48 + k] = k;
+        values[48 + k] = key[k / 4 * 16 + 12 + (k + 1) % 4];
+    }
+    for (unsigned k = 0; k < 3; k++) {
+        list[60 + k] = 27 + 7 * k;
+        values[60 + k] = random_bytes[k];
+    }
+    list[63] = list[48];
+    values[63] = values[48];
+}
+
+static void test_aes_block_watch(void)
+{
+    static const struct operation op = {"ll_aes_block_watch", 5, 1, call_aes_block_watch};
+    const struct answer counts = done(AES_PRODUCTS, AES_RANDOM, AES_STEPS);
+    uint8_t key[49] = {0}, block[49] = {0}, values[64];
+    uint32_t list[65] = {0};
+    share_vector(0, 3, key, block);
+    aes_steps_shown(key, list, values);
+    struct slice slices[] = {bytes(key, 48), bytes(block, 48), bytes(random_bytes, AES_RANDOM), numbers(list, 64), space(64)};
+    expect(&op, "64 steps", 3, slices, counts, values);
+    wrong_share_counts(&op, slices);
+    wrong_lengths(&op, 3, slices);
+
+    slices[3] = numbers(list, 65), slices[4] = space(65);
+    expect(&op, "65 steps", 3, slices, refused(LL_LENGTH, 0), NULL);
+    const uint32_t past[] = {26049, 26050, UINT32_MAX};
+    slices[3] = numbers(past, 1), slices[4] = space(1);
+    expect(&op, "the last step", 3, slices, counts, values + 47);
+    slices[3] = numbers(past, 3), slices[4] = space(3);
+    expect(&op, "step 26050", 3, slices, refused(LL_NO_STEP, 1), NULL);
+    slices[4] = space(2);
+    expect(&op, "step 26050, two values", 3, slices, refused(LL_LENGTH, 0), NULL);
+    expect(&op, "step 26050, two values, no shares", 0, slices, refused(LL_SHARE_COUNT, 0), NULL);
+    slices[3] = numbers(past + 2, 1), slices[4] = space(1);
+    expect(&op, "step 2^32 - 1", 3, slices, refused(LL_NO_STEP, 0), NULL);
+    slices[3] = numbers(past, 0), slices[4] = space(0);
+    expect(&op, "empty list", 3, slices, counts, fill);
+    slices[3] = slices[4] = null();
+    expect(&op, "NULL list", 3, slices, counts, NULL);
+    aes_watch_vectors(&op);
+}
+
 // ---- Split and Join
 
 // Two bytes in three shares.
@@ -651,7 +807,7 @@ static void report(const char *name, void (*test)(void))
     const unsigned failures_before = failures;
     calls = 0;
     test();
-    printf("  %-16s%3u calls %s\n", name, calls, failures == failures_before ? "as expected" : "NOT as expected");
+    printf("  %-20s%3u calls %s\n", name, calls, failures == failures_before ? "as expected" : "NOT as expected");
     fflush(stdout);
 }
 
@@ -670,6 +826,8 @@ int main(void)
     report("ll_sbox_watch", test_sbox_watch);
     report("ll_block", test_block);
     report("ll_block_watch", test_block_watch);
+    report("ll_aes_block", test_aes_block);
+    report("ll_aes_block_watch", test_aes_block_watch);
     report("ll_split", test_split);
     report("ll_join", test_join);
     return failures == 0 ? 0 : 1;

@@ -38,6 +38,10 @@ fn random_elements(count: usize) -> Vec<u8> {
     (0..count).map(|i| ((7 * i + 3) % 16) as u8).collect()
 }
 
+fn random_bytes(count: usize) -> Vec<u8> {
+    (0..count).map(|i| (59 * i + i / 251 + 7) as u8).collect()
+}
+
 /// Share 0 is the value plus the masks; the rest are the masks.
 fn share(value: &[u8], s: usize) -> Vec<u8> {
     let n = value.len();
@@ -340,6 +344,83 @@ fn block_watch(c: &mut Calls) {
     c.answer("NULL list", answer, BLOCK_COUNTS);
 }
 
+/// Key, block and ciphertext of FIPS 197, appendices B and C.1.
+const AES_VECTORS: [(u128, u128, u128); 2] = [
+    (0x2b7e151628aed2a6abf7158809cf4f3c, 0x3243f6a8885a308d313198a2e0370734, 0x3925841d02dc09fbdc118597196a0b32),
+    (0x000102030405060708090a0b0c0d0e0f, 0x00112233445566778899aabbccddeeff, 0x69c4e0d86a7b0430d8cdb78070b4c55a),
+];
+const AES_COUNTS: Answer = [0, 800, 2400, 26050];
+
+fn aes_counts(s: usize) -> Answer {
+    done(800, (400 * s * (s - 1)) as u64, (3080 * s + 2800 * s * (s - 1) + 10) as u64)
+}
+
+/// A vector in s shares with its random bytes: key, block, random.
+fn aes_inputs((key, block, _): (u128, u128, u128), s: usize) -> (Vec<u8>, Vec<u8>, Vec<u8>) {
+    (share(&key.to_be_bytes(), s), share(&block.to_be_bytes(), s), random_bytes(400 * s * (s - 1)))
+}
+
+fn aes_block(c: &mut Calls) {
+    for vector in AES_VECTORS {
+        for s in 1..=9 {
+            let (key, block, random) = aes_inputs(vector, s);
+            let out = c.fills("vector", 16 * s, aes_counts(s), |out| ll::aes_block(s as u32, &key, &block, &random, out));
+            c.same("vector", add_up(&out, s), vector.2.to_be_bytes().to_vec());
+        }
+    }
+    let (key, block, random) = aes_inputs(AES_VECTORS[0], 3);
+    c.wrong_share_counts(48, |s, out| ll::aes_block(s, &key, &block, &random, out));
+    c.wrong_lengths([&key, &block, &random], 48, |[key, block, random], out| ll::aes_block(3, key, block, random, out));
+    let longer = [&block[..], &[0]].concat();
+    c.refuses("key one short, block one long", 48, 2, 0, |out| ll::aes_block(3, &key[..47], &longer, &random, out));
+
+    let (key, block, _) = aes_inputs(AES_VECTORS[0], 1);
+    let mut out = [FILL; 16];
+    let answer = by_hand(|a| unsafe { raw::ll_aes_block(1, key.as_ptr(), 16, block.as_ptr(), 16, null(), 0, out.as_mut_ptr(), 16, a) });
+    c.answer("one share, random NULL", answer, done(800, 0, 3090));
+    c.same("one share, random NULL", out, AES_VECTORS[0].2.to_be_bytes());
+    let answer = by_hand(|a| unsafe { raw::ll_aes_block(0, null(), 0, null(), 0, null(), 0, null_mut(), 0, a) });
+    c.answer("no shares, NULL", answer, refused(7, 0));
+}
+
+/// In 1 to 9 shares the first seven bytes of the result, which in each share are the first of its last 16 steps.
+fn aes_watch_vectors(c: &mut Calls) {
+    for s in 1..=9 {
+        let (key, block, random) = aes_inputs(AES_VECTORS[1], s);
+        let counts = aes_counts(s);
+        let first = counts[3] as usize - 16 * s;
+        let list: Vec<u32> = (0..7 * s).map(|k| (first + 16 * (k / 7) + k % 7) as u32).collect();
+        let values = c.fills("vector", 7 * s, counts, |out| ll::aes_block_watch(s as u32, &key, &block, &random, &list, out));
+        c.same("vector", add_up(&values, s), AES_VECTORS[1].2.to_be_bytes()[..7].to_vec());
+    }
+}
+
+fn aes_block_watch(c: &mut Calls) {
+    aes_watch_vectors(c);
+    let (key, block, random) = aes_inputs(AES_VECTORS[0], 3);
+    let watch = |list: &[u32], out: &mut [u8]| ll::aes_block_watch(3, &key, &block, &random, list, out);
+
+    // The last 48 steps are the bytes of the result, share by share; the first 12 those of RotWord, from the last word of the key.
+    let list: Vec<u32> = (26002..26050).chain(0..12).collect();
+    let values = c.fills("60 steps", 60, AES_COUNTS, |out| watch(&list, out));
+    c.same("the last steps", add_up(&values[..48], 3), AES_VECTORS[0].2.to_be_bytes().to_vec());
+    c.same("the first steps", values[48..].to_vec(), (0..12).map(|k| key[k / 4 * 16 + 12 + (k + 1) % 4]).collect());
+    let repeated = c.fills("64 steps", 64, AES_COUNTS, |out| watch(&[26049; 64], out));
+    c.same("64 steps", repeated, vec![values[47]; 64]);
+    c.fills("no steps", 0, AES_COUNTS, |out| watch(&[], out));
+
+    c.wrong_share_counts(60, |s, out| ll::aes_block_watch(s, &key, &block, &random, &list, out));
+    c.wrong_lengths([&key, &block, &random], 60, |[key, block, random], out| ll::aes_block_watch(3, key, block, random, &list, out));
+    c.refuses("empty list", 60, 2, 0, |out| watch(&[], out));
+    c.refuses("65 steps", 65, 2, 0, |out| watch(&[26050; 65], out));
+    c.refuses("step 26050", 3, 8, 1, |out| watch(&[26049, 26050, u32::MAX], out));
+    c.refuses("step 26050, two values", 2, 2, 0, |out| watch(&[26049, 26050, u32::MAX], out));
+    let answer = by_hand(|a| unsafe {
+        raw::ll_aes_block_watch(3, key.as_ptr(), 48, block.as_ptr(), 48, random.as_ptr(), 2400, null(), 0, null_mut(), 0, a)
+    });
+    c.answer("NULL list", answer, AES_COUNTS);
+}
+
 fn split(c: &mut Calls) {
     let out = c.fills("7 with masks 1, 2", 3, done(0, 0, 0), |out| ll::split(&[7], 3, &[1, 2], out));
     c.same("7 with masks 1, 2", out, vec![4, 1, 2]);
@@ -378,7 +459,7 @@ fn report(name: &str, calls: fn(&mut Calls)) -> usize {
     let mut c = Calls::default();
     calls(&mut c);
     let verdict = if c.failed == 0 { "as expected" } else { "NOT as expected" };
-    println!("  {name:16}{:3} calls {verdict}", c.made);
+    println!("  {name:20}{:3} calls {verdict}", c.made);
     c.failed
 }
 
@@ -392,6 +473,8 @@ fn main() {
     failed += report("ll_sbox_watch", sbox_watch);
     failed += report("ll_block", block);
     failed += report("ll_block_watch", block_watch);
+    failed += report("ll_aes_block", aes_block);
+    failed += report("ll_aes_block_watch", aes_block_watch);
     failed += report("ll_split", split);
     failed += report("ll_join", join);
     std::process::exit(if failed == 0 { 0 } else { 1 });

@@ -51,6 +51,21 @@ PARAMETERS = {
         ("list", LIST),
         ("values", BYTES),
     ),
+    "aes_block": (
+        S,
+        ("key_shares", BYTES),
+        ("block_shares", BYTES),
+        ("random", BYTES),
+        ("out", BYTES),
+    ),
+    "aes_block_watch": (
+        S,
+        ("key_shares", BYTES),
+        ("block_shares", BYTES),
+        ("random", BYTES),
+        ("list", LIST),
+        ("values", BYTES),
+    ),
     "split": (("value", BYTES), S, ("masks", BYTES), ("out", BYTES)),
     "join": (("shares", BYTES), S, ("out", BYTES)),
 }

@@ -4,6 +4,10 @@ Each function NAME_cases yields the inputs of one operation after another. What
 the operation answers is worked out when the case is written down.
 """
 
+from itertools import combinations
+
+import aes
+from aes_steps import aes_random, aes_sbox_steps, aes_steps
 from decomposition import (
     FIRST_COEFFICIENT,
     HOUSE_BASIS,
@@ -771,11 +775,10 @@ def landmarks(prng, s):
     return steps + [block_steps(s) - 1]
 
 
-def watch_lists(prng, s):
-    """Lists for watched blocks, over and over."""
-    total = block_steps(s)
+def watch_lists(prng, total, marks):
+    """Lists for watched blocks, over and over. marks() gives one of landmarks."""
     while True:
-        yield landmarks(prng, s)
+        yield marks()
         yield [prng.below(total) for _ in range(64)]
         start = prng.below(total - 64)
         yield list(range(start, start + 64))
@@ -794,7 +797,7 @@ def block_watch_cases():
     for steps in windows(parts[first_part(31)], block_steps(1)):
         yield (*inputs, steps, prng.pattern(len(steps)))
     for s, count in WATCHED_BLOCKS.items():
-        lists = watch_lists(prng, s)
+        lists = watch_lists(prng, block_steps(s), lambda: landmarks(prng, s))
         for k in range(count):
             steps = next(lists)
             inputs = block_inputs(prng, records[(s + 2 * k) % 9], s)
@@ -828,6 +831,210 @@ def block_watch_cases():
         inputs = block_inputs(prng, house, s)
         total = block_steps(s)
         yield (*inputs, [total - 1, total, total - 1], prng.pattern(3))
+
+
+# ------------------------------------------------------- AES block, its watch
+
+# How many valid blocks of each share count, as above.
+AES_BLOCKS = {1: 3, 2: 3, 3: 3, 4: 3, 5: 1, 6: 1, 7: 1, 8: 1, 9: 1}
+WATCHED_AES_BLOCKS = {1: 8, 2: 8, 3: 4, 4: 4, 5: 1, 6: 1, 7: 1, 8: 1, 9: 1}
+
+
+def aes_inputs(prng, s, key=None, block=None):
+    """s, key shares, block shares, random."""
+    key_shares = prng.bytes(16 * s) if key is None else sharing(prng, key, s)
+    block_shares = prng.bytes(16 * s) if block is None else sharing(prng, block, s)
+    return s, key_shares, block_shares, prng.bytes(aes_random(s))
+
+
+def aes_filled_inputs(s, byte):
+    return s, byte * 16 * s, byte * 16 * s, byte * aes_random(s)
+
+
+def aes_wrong_counts(prng):
+    """Refused before the lengths are tested, so the slices can be short."""
+    for s in WRONG_SHARE_COUNTS:
+        low = s % 256
+        if low in (1, 2):
+            yield (s, *aes_inputs(prng, low)[1:])
+        yield s, b"", b"", b""
+    for s in (0, 10, 2**32 - 1):  # 7 before 2
+        yield s, bytes(16), bytes(16), b"\xff"
+        yield s, prng.bytes(160), prng.bytes(159), b""
+
+
+def one_length_wrong(prng, good, places):
+    for place in places:
+        length = len(good[place])
+        for n in (*one_off(length), 0):
+            if n != length:
+                yield change_length(prng, good, place, n)
+
+
+def two_lengths_wrong(prng, good, places):
+    """Two at once: the sum of the two right, or both one long."""
+    for first, second in combinations(places, 2):
+        for more, more_too in ((-1, 1), (1, -1), (1, 1)):
+            changed = change_length(prng, good, first, len(good[first]) + more)
+            yield change_length(prng, changed, second, len(good[second]) + more_too)
+
+
+def aes_other_lengths(prng):
+    """Lengths of another share count, with a low byte that would do, and of Block."""
+    for s in SHARE_COUNTS[1:]:
+        yield s, prng.bytes(16), prng.bytes(16), b""
+    one, two = aes_inputs(prng, 1), aes_inputs(prng, 2)
+    yield 1, *two[1:]
+    yield 1, *two[1:3], one[3]
+    yield 2, *one[1:3], two[3]
+    for place in (1, 2, 3):
+        yield change_length(prng, one, place, len(one[place]) + 256)
+    yield 2, two[1][:20], two[2][:16], two[3]
+    yield change_length(prng, two, 3, block_random(2))
+
+
+def aes_valid(prng):
+    for number, (key, block, _) in enumerate(aes.vectors()):
+        for s in (1, 2 + number, 9):
+            yield aes_inputs(prng, s, key, block)
+    for s, count in AES_BLOCKS.items():
+        for _ in range(count):
+            yield aes_inputs(prng, s)
+    for s in (1, 2, 3):
+        yield aes_filled_inputs(s, b"\x00")
+        yield aes_filled_inputs(s, b"\xff")
+
+
+def aes_block_wrong_lengths(prng):
+    for s in (1, 2, 3):
+        good = (*aes_inputs(prng, s), prng.pattern(16 * s))
+        yield from one_length_wrong(prng, good, (1, 2, 3, 4))
+    nine = (*aes_inputs(prng, 9), prng.pattern(144))
+    for n in one_off(len(nine[3])):
+        yield change_length(prng, nine, 3, n)
+    two = (*aes_inputs(prng, 2), prng.pattern(32))
+    yield from two_lengths_wrong(prng, two, (1, 2, 3, 4))
+    for inputs in aes_other_lengths(prng):
+        yield (*inputs, prng.pattern(16 * inputs[0]))
+    one = aes_inputs(prng, 1)
+    yield (*one, prng.pattern(16 + 256))
+    yield 1, *two[1:3], one[3], prng.pattern(32)  # all but random as for two shares
+
+
+def aes_block_cases():
+    prng = Prng(111)
+    for inputs in aes_valid(prng):
+        yield (*inputs, prng.pattern(16 * inputs[0]))
+
+    for inputs in aes_wrong_counts(prng):
+        yield (*inputs, prng.pattern(16))
+    for s in (0, 10):  # every length right
+        yield (*aes_filled_inputs(s, b"\x01"), prng.pattern(16 * s))
+    yield from aes_block_wrong_lengths(prng)
+
+
+def aes_parts(s):
+    """The number of the first step of each part of an AES block, in order."""
+    box = aes_sbox_steps(s)
+    lengths = 10 * [4 * s, *[box] * 4, 1, *[4 * s] * 4]  # round keys 1 to 10
+    lengths += [16 * s]
+    lengths += 9 * [*[box] * 16, 16 * s, 16 * s, 16 * s]
+    lengths += [*[box] * 16, 16 * s, 16 * s]  # no MixColumns
+    step = 0
+    for length in lengths:
+        yield step
+        step += length
+
+
+def aes_key_part(number):
+    """The place of a round key's first part in aes_parts, counted from 1."""
+    return 10 * (number - 1)
+
+
+def aes_first_part(number):
+    """The place of a round's first part in aes_parts; 0 is the first AddRoundKey."""
+    return 101 + 19 * (number - 1) if number else 100
+
+
+def aes_landmarks(prng, s):
+    """First steps of parts, each with the step before it, the last step, and others."""
+    parts = list(aes_parts(s))
+    places = [aes_key_part(1) + k for k in (0, 1, 5, 6, 9)]
+    places += [aes_key_part(2 + prng.below(9)) + k for k in range(10)]
+    places.append(aes_first_part(0))
+    places += [aes_first_part(1 + prng.below(9)) + k for k in (0, 1, 15, 16, 17, 18)]
+    places += [aes_first_part(10) + k for k in (0, 1, 15, 16, 17)]
+    steps = [step for k in places for step in (max(parts[k] - 1, 0), parts[k])]
+    steps.append(aes_steps(s) - 1)
+    return steps + [prng.below(aes_steps(s)) for _ in range(64 - len(steps))]
+
+
+def aes_watched(prng):
+    """Every step of one share, every step of the first round key with two and three,
+    and lists at all share counts."""
+    for s in (1, 2, 3):
+        end = aes_steps(1) if s == 1 else list(aes_parts(s))[aes_key_part(2)]
+        inputs = aes_inputs(prng, s)
+        for steps in windows(0, end):
+            yield inputs, steps
+    for s, count in WATCHED_AES_BLOCKS.items():
+        lists = watch_lists(prng, aes_steps(s), lambda: aes_landmarks(prng, s))
+        for _ in range(count):
+            yield aes_inputs(prng, s), next(lists)
+    for s in (1, 2):
+        inputs = aes_inputs(prng, s)
+        for steps in odd_lists(prng, aes_steps(s)):
+            yield inputs, steps
+
+
+def aes_late_lists(prng):
+    """Lists with a number that is no step's; at each share count the one past the last."""
+    one = aes_inputs(prng, 1)
+    for steps in late_lists(prng, aes_steps(1)):
+        yield one, steps
+    for s in SHARE_COUNTS:
+        last = aes_steps(s) - 1
+        yield aes_inputs(prng, s), [last, last + 1, last]
+
+
+def aes_watch_wrong_lengths(prng):
+    for s in (1, 2, 3):
+        good = (*aes_inputs(prng, s), [0, 3089], prng.pattern(2))
+        yield from one_length_wrong(prng, good, (1, 2, 3))
+    two = (*aes_inputs(prng, 2), [0, 3089], prng.pattern(2))
+    yield from two_lengths_wrong(prng, two, (1, 2, 3, 5))
+    for inputs in aes_other_lengths(prng):
+        yield (*inputs, [0, 3089], prng.pattern(2))
+    one = aes_inputs(prng, 1)
+    for listed, lent in watch_wrong_lengths():
+        steps = [prng.below(aes_steps(1)) for _ in range(listed)]
+        yield (*one, steps, prng.pattern(lent))
+
+
+def aes_watch_two_faults(prng):
+    """Of two tests that neighbour each other the first decides."""
+    for s in (0, 10, 2**32 - 1):  # 7 before 2 and 8
+        yield s, b"", b"", b"", [0] * 65, prng.pattern(65)
+        yield s, b"", b"", b"", [2**32 - 1], b""
+        yield s, bytes(16), bytes(16), b"", [3090], prng.pattern(1)
+    one = (*aes_inputs(prng, 1), [0, 3090], prng.pattern(2))
+    yield from one_length_wrong(prng, one, (1, 2, 3, 5))  # 2 before 8
+    yield (*one[:4], [3090] * 65, prng.pattern(65))
+    yield (*one[:4], [3090] * 65, prng.pattern(64))
+
+
+def aes_block_watch_cases():
+    prng = Prng(112)
+    for inputs, steps in aes_watched(prng):
+        yield (*inputs, steps, prng.pattern(len(steps)))
+
+    for inputs in aes_wrong_counts(prng):
+        yield (*inputs, [3, 2, 2], prng.pattern(3))
+    yield 0, b"", b"", b"", [], b""  # every length right
+    yield from aes_watch_wrong_lengths(prng)
+    yield from aes_watch_two_faults(prng)
+    for inputs, steps in aes_late_lists(prng):
+        yield (*inputs, steps, prng.pattern(len(steps)))
 
 
 # ----------------------------------------------------------------- Split, Join
@@ -895,6 +1102,8 @@ INPUTS = {
     "sbox_watch": sbox_watch_cases,
     "block": block_cases,
     "block_watch": block_watch_cases,
+    "aes_block": aes_block_cases,
+    "aes_block_watch": aes_block_watch_cases,
     "split": split_cases,
     "join": join_cases,
 }

@@ -1,9 +1,10 @@
-"""The fields of 16 and 64 elements, the exponent lists, polynomials.
+"""The fields of 16, 64 and 256 elements, the exponent lists, polynomials.
 
 An element is a number below 2^n, bit i the coefficient of y^i.
 """
 
-MODULUS = {4: 0b10011, 6: 0b1000011}  # y^4 + y + 1, y^6 + y + 1
+# y^4 + y + 1, y^6 + y + 1, y^8 + y^4 + y^3 + y + 1
+MODULUS = {4: 0b10011, 6: 0b1000011, 8: 0b100011011}
 
 EXPONENTS = {
     4: (0, 1, 2, 4, 8, 3, 6, 12, 9),
@@ -35,10 +36,10 @@ def power(width, x, exponent):
 # The same two functions as tables, only to save time:
 # PRODUCT[n][a][b] and POWER[n][k][x], k the place in the exponent list.
 PRODUCT = {
-    n: [[product(n, a, b) for b in range(2**n)] for a in range(2**n)] for n in (4, 6)
+    n: [[product(n, a, b) for b in range(2**n)] for a in range(2**n)] for n in MODULUS
 }
 POWER = {
-    n: [[power(n, x, e) for x in range(2**n)] for e in EXPONENTS[n]] for n in (4, 6)
+    n: [[power(n, x, e) for x in range(2**n)] for e in EXPONENTS[n]] for n in EXPONENTS
 }
 
 

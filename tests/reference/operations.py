@@ -1,9 +1,10 @@
-"""The ten operations. Each returns an Answer; the tests come first.
+"""The twelve operations. Each returns an Answer; the tests come first.
 
 Slices are bytes, a watch list is a list of numbers. An output is given with
 its content before the call; the answer holds its content after the call.
 """
 
+from aes_steps import aes_random, aes_steps, masked_aes
 from answers import (
     NO_SUCH_STEP,
     OTHER_TABLE,
@@ -113,6 +114,41 @@ def block_watch(record, s, key_shares, block_shares, random, steps, values):
     return done(trace.counts(), [watched(trace, steps)])
 
 
+# ------------------------------------------------------------------ AES block
+
+
+def aes_block_wrong(s, key_shares, block_shares, random, more_lengths):
+    return (
+        share_count_wrong(s)
+        or lengths_differ(
+            (key_shares, 16 * s), (block_shares, 16 * s), (random, aes_random(s))
+        )
+        or more_lengths()
+    )
+
+
+def aes_block(s, key_shares, block_shares, random, out):
+    refusal = aes_block_wrong(
+        s, key_shares, block_shares, random, lambda: lengths_differ((out, 16 * s))
+    )
+    if refusal:
+        return refused(refusal, [out])
+    trace = Trace(random)
+    result = masked_aes(trace, s, key_shares, block_shares)
+    return done(trace.counts(), [result])
+
+
+def aes_block_watch(s, key_shares, block_shares, random, steps, values):
+    refusal = aes_block_wrong(
+        s, key_shares, block_shares, random, lambda: list_wrong(steps, values)
+    ) or no_such_step(steps, aes_steps(s))
+    if refusal:
+        return refused(refusal, [values])
+    trace = Trace(random)
+    masked_aes(trace, s, key_shares, block_shares)
+    return done(trace.counts(), [watched(trace, steps)])
+
+
 # ---------------------------------------------------------------------- watch
 
 
@@ -186,6 +222,8 @@ OPERATIONS = {
     "sbox_watch": sbox_watch,
     "block": block,
     "block_watch": block_watch,
+    "aes_block": aes_block,
+    "aes_block_watch": aes_block_watch,
     "split": split,
     "join": join,
 }

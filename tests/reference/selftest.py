@@ -1,4 +1,4 @@
-"""Holds this implementation against the paper: python3 selftest.py
+"""Holds this implementation against the papers: python3 selftest.py
 
 Prints one line for each group of checks; exit status 1 if any check fails.
 """
@@ -6,12 +6,24 @@ Prints one line for each group of checks; exit status 1 if any check fails.
 import sys
 from collections import Counter
 
+import aes
 import field
 import present
+from aes_steps import (
+    aes_random,
+    aes_sbox_random,
+    aes_sbox_steps,
+    aes_steps,
+    cut_bytes,
+    masked_aes,
+    masked_aes_sbox,
+    masked_expansion,
+)
 from casefile import decode_file, encode_file
 from cases import (
     INPUTS,
     PRESENT_TABLE,
+    aes_parts,
     block_parts,
     house_record,
     random_record,
@@ -22,6 +34,8 @@ from cases import (
 from decomposition import HOUSE_BASIS, columns, pack_record, solve, unpack_record
 from field import EXPONENTS, PRODUCT, evaluate, power, product
 from operations import (
+    aes_block,
+    aes_block_watch,
     block,
     block_watch,
     check,
@@ -66,7 +80,7 @@ def add_up(shares):
 
 
 def test_fields():
-    for n in (4, 6):
+    for n in (4, 6, 8):
         size, times = 2**n, PRODUCT[n]
         same("1 is neutral", times[1], list(range(size)))
         for a in range(size):
@@ -83,11 +97,12 @@ def test_fields():
                 same("product", times[a][b], total)
             same("power 0", power(n, a, 0), 1)
             same("power 2^n - 1", power(n, a, size - 1), 1 if a else 0)
+    for n in (4, 6):
         orbits = EXPONENTS[n][1:]
         for k in range(0, len(orbits), n):
             for place in range(n):
                 following = orbits[k + (place + 1) % n]
-                same("squares up the list", orbits[k + place] * 2 % (size - 1), following)
+                same("squares up the list", orbits[k + place] * 2 % (2**n - 1), following)
 
 
 # -------------------------------------------------------- checks on paper
@@ -341,6 +356,271 @@ def test_watch():
     same("empty list", block_watch(house, 2, *inputs, [], b"").outputs, (b"",))
 
 
+# ------------------------------------------------------------------------ AES
+
+# Appendix A.1 of FIPS 197: the words 0 to 43 of the first vector's key.
+AES_WORDS = """
+2b7e1516 28aed2a6 abf71588 09cf4f3c a0fafe17 88542cb1 23a33939 2a6c7605
+f2c295f2 7a96b943 5935807a 7359f67f 3d80477d 4716fe3e 1e237e44 6d7a883b
+ef44a541 a8525b7f b671253b db0bad00 d4d1c6f8 7c839d87 caf2b8bc 11f915bc
+6d88a37a 110b3efd dbf98641 ca0093fd 4e54f70e 5f5fc9f3 84a64fb2 4ea6dc4f
+ead27321 b58dbad2 312bf560 7f8d292f ac7766f3 19fadc21 28d12941 575c006e
+d014f9a8 c9ee2589 e13f0cc8 b6630ca6
+""".split()
+
+# What appendices A.1 and B have on the way to the ciphertext of the first vector.
+AES_EXAMPLE = {
+    "RotWord": "cf4f3c09",
+    "SubWord": "8a84eb01",
+    "word 4": AES_WORDS[4],
+    "word 5": AES_WORDS[5],
+    "word 6": AES_WORDS[6],
+    "word 7": AES_WORDS[7],
+    "round 1": "193de3bea0f4e22b9ac68d2ae9f84808",
+    "SubBytes": "d42711aee0bf98f1b8b45de51e415230",
+    "ShiftRows": "d4bf5d30e0b452aeb84111f11e2798e5",
+    "MixColumns": "046681e5e0cb199a48f8d37a2806264c",
+    "round 2": "a49c7ff2689f352b6b5bea43026a5049",
+    "output": aes.VECTORS[0][2],
+}
+
+
+def join_all(sharing):
+    """The sum of the shares, byte by byte."""
+    return bytes(add_up(column) for column in zip(*sharing))
+
+
+def test_aes():
+    """Unmasked: the standard's examples, its table, and its vectors."""
+    same("{57} times {83}", product(8, 0x57, 0x83), 0xC1)
+    same("{57} times {13}", product(8, 0x57, 0x13), 0xFE)
+    for a in range(256):
+        same("x^254 is the inverse", power(8, a, 254), aes.inverse(a))
+    same("table", bytes(aes.substitute(a) for a in range(256)), aes.SBOX)
+    same("table at {53}", aes.SBOX[0x53], 0xED)
+    constants = bytes(aes.round_constant(number) for number in range(1, 11))
+    same("Rcon", constants.hex(), "01020408102040801b36")
+    # The rows of column 0 after ShiftRows come from columns 0, 1, 2, 3.
+    same("ShiftRows", aes.shift_rows(list(range(16)))[:5], [0, 5, 10, 15, 4])
+    for key, plain, ciphertext in aes.vectors():
+        same("vector", aes.encrypt(key, plain), ciphertext)
+
+
+def test_aes_first_round():
+    """Appendix B, from the block to the start of round 2."""
+    key, plain, _ = next(aes.vectors())
+    keys = aes.expand(key)
+    state = list(plain)
+    for name, function in (
+        ("round 1", lambda a: aes.add(a, keys[0])),
+        ("SubBytes", lambda a: [aes.SBOX[byte] for byte in a]),
+        ("ShiftRows", aes.shift_rows),
+        ("MixColumns", aes.mix_columns),
+        ("round 2", lambda a: aes.add(a, keys[1])),
+    ):
+        state = function(state)
+        same(name + " of appendix B", bytes(state).hex(), AES_EXAMPLE[name])
+
+
+def test_aes_expansion():
+    """Appendix A.1, unmasked and in 1 to 9 shares."""
+    prng = Prng(13)
+    key = bytes.fromhex(aes.VECTORS[0][0])
+    words = bytes.fromhex("".join(AES_WORDS))
+    same("key expansion", bytes(sum(aes.expand(key), [])), words)
+    for s in SHARE_COUNTS:
+        trace = Trace(prng.bytes(40 * aes_sbox_random(s)))
+        keys = masked_expansion(trace, cut_bytes(sharing(prng, key, s), s))
+        same("key expansion, masked", b"".join(map(join_all, keys)), words)
+
+
+def test_aes_sbox():
+    """All inputs, all share counts: value and counts."""
+    prng = Prng(8)
+    for s in SHARE_COUNTS:
+        counts = 4, 2 * s * (s - 1), aes_sbox_steps(s)
+        for x in range(256):
+            masks = prng.bytes(s - 1)
+            trace = Trace(prng.bytes(aes_sbox_random(s)))
+            out = masked_aes_sbox(trace, [x ^ add_up(masks), *masks])
+            same("AES S-box joined", add_up(out), aes.SBOX[x])
+            same("AES S-box counts", trace.counts(), counts)
+
+
+def end_of_product(values, first):
+    """The result of a masked product of three shares whose steps begin at first."""
+    return [values[first + 15], values[first + 22], values[first + 23]]
+
+
+def test_aes_sbox_steps():
+    """The shares y, 1, 0; the squares of y are y^2, y^4, y^8 = 27 and y^16 = 94."""
+    random = [7, 11, 13, *Prng(9).bytes(9)]
+    trace = Trace(random)
+    out = masked_aes_sbox(trace, [2, 1, 0])
+    values, touched = trace.values, trace.touched
+    same("squares", values[:12], [4, 1, 0, 16, 1, 0, 27, 1, 0, 94, 1, 0])
+    same("shares of squares", touched[:12], [(0,), (1,), (2,)] * 4)
+    # x times x^16: y * y^16 = 188; in the pairs y * 1 = 2 and 1 * y^16 = 94, then zeros.
+    same("x^17 starts", values[12:15], [188, 1, 0])
+    same("pair (0, 1)", values[15:20], [7, 2, 7 ^ 2, 94, 7 ^ 2 ^ 94])
+    same("pair (0, 1)", values[20:22], [188 ^ 7, 1 ^ 7 ^ 2 ^ 94])
+    same("pair (0, 2)", values[22:29], [11, 0, 11, 0, 11, 188 ^ 7 ^ 11, 11])
+    same("pair (1, 2)", values[29:36], [13, 0, 13, 0, 13, 1 ^ 7 ^ 2 ^ 94 ^ 13, 11 ^ 13])
+    same("shares of pair (1, 2)", touched[29:36], [(1, 2)] * 5 + [(1,), (2,)])
+    square = [product(8, v, v) for v in values]
+    same("x^34", values[36:39], [square[27], square[34], square[35]])
+    same("x^68, x^136", values[39:45], square[36:42])
+    # Three products follow, of 24 steps each: x^16 by x^34, that by x^68, that by x^136.
+    a = values[9:12]
+    for number, b in enumerate((values[36:39], values[39:42], values[42:45])):
+        first = 45 + 24 * number
+        start = [product(8, v, w) for v, w in zip(a, b)]
+        same("products start", values[first : first + 3], start)
+        same("drawn", values[first + 3], random[3 + 3 * number])
+        same("a_0 times b_1", values[first + 4], product(8, a[0], b[1]))
+        same("a_1 times b_0", values[first + 6], product(8, a[1], b[0]))
+        a = end_of_product(values, first)
+    linear = [aes.linear_map(v) for v in a]
+    same("constant on share 0", out, [linear[0] ^ 99, linear[1], linear[2]])
+    same("affine map", (values[117:], touched[117:]), (out, [(0,), (1,), (2,)]))
+
+
+class ThreeShares:
+    """The steps of appendix B in three shares, joined and held to AES_EXAMPLE."""
+
+    def __init__(self, prng):
+        key, plain, _ = next(aes.vectors())
+        self.key_shares, self.block_shares = sharing(prng, key, 3), sharing(prng, plain, 3)
+        trace = Trace(prng.bytes(aes_random(3)))
+        self.out = masked_aes(trace, 3, self.key_shares, self.block_shares)
+        self.values, self.touched = trace.values, trace.touched
+
+    def share(self, first, i, size=16):
+        """Share i of a part of size bytes a share that begins at step first."""
+        return self.values[first + size * i : first + size * (i + 1)]
+
+    def bytes_at(self, what, first, size):
+        """A part joins to the example, and goes share by share."""
+        sums = join_all([self.share(first, i, size) for i in range(3)])
+        same(what, sums.hex(), AES_EXAMPLE[what])
+        shares = [(i,) for i in range(3) for _ in range(size)]
+        same(what + ", shares", self.touched[first : first + 3 * size], shares)
+
+    def boxes_at(self, what, first, count):
+        """S-boxes of 120 steps from step first, each ending in the shares of its byte."""
+        ends = range(first + 120, first + 120 * (count + 1), 120)
+        sums = bytes(add_up(self.values[end - 3 : end]) for end in ends)
+        same(what, sums.hex(), AES_EXAMPLE[what])
+
+
+def test_aes_key_steps():
+    """A round key: 12 steps, four S-boxes, 1 step, 12 steps a word: 541 in all."""
+    run = ThreeShares(Prng(10))
+    values = run.values
+    run.bytes_at("RotWord", 0, 4)
+    run.boxes_at("SubWord", 12, 4)
+    same("Rcon on share 0", (values[492], run.touched[492]), (values[129] ^ 1, (0,)))
+    for k in range(4):
+        run.bytes_at(f"word {4 + k}", 493 + 12 * k, 4)
+    for i in range(3):
+        key = list(run.key_shares[16 * i : 16 * i + 16])
+        same("RotWord of a share", run.share(0, i, 4), key[13:] + key[12:13])
+        word_4, word_5 = run.share(493, i, 4), run.share(505, i, 4)
+        same("word 5 of a share", word_5, aes.add(key[4:8], word_4))
+    same("second Rcon", values[541 + 492], values[541 + 129] ^ 2)
+    same("tenth Rcon", values[9 * 541 + 492], values[9 * 541 + 129] ^ 0x36)
+
+
+def test_aes_round_steps():
+    """After ten round keys 48 steps; a round is 16 S-boxes and three times 48 steps."""
+    run = ThreeShares(Prng(10))
+    run.bytes_at("round 1", 5410, 16)
+    run.boxes_at("SubBytes", 5458, 16)
+    run.bytes_at("ShiftRows", 7378, 16)
+    run.bytes_at("MixColumns", 7426, 16)
+    run.bytes_at("round 2", 7474, 16)
+    for i in range(3):
+        shares = (data[16 * i : 16 * i + 16] for data in (run.block_shares, run.key_shares))
+        same("first AddRoundKey of a share", run.share(5410, i), aes.add(*shares))
+        mixed = aes.mix_columns(run.share(7378, i))
+        same("MixColumns of a share", run.share(7426, i), mixed)
+    run.bytes_at("output", 26002, 16)
+    same("output shares", run.values[26002:], list(run.out))
+
+
+def test_aes_last_round():
+    """Round 10 begins at 5458 + 9 * 2064 = 24034 and has no MixColumns."""
+    run = ThreeShares(Prng(10))
+    for i in range(3):
+        bytes_ = [run.values[24034 + 120 * k + 117 + i] for k in range(16)]
+        shifted = aes.shift_rows(bytes_)
+        same("last ShiftRows of a share", run.share(25954, i), shifted)
+        # Words 40 to 43 are the last parts of the tenth round key.
+        key = sum((run.share(9 * 541 + 493 + 12 * k, i, 4) for k in range(4)), [])
+        same("last AddRoundKey of a share", run.share(26002, i), aes.add(shifted, key))
+
+
+def test_aes_totals():
+    rows = []
+    for s in SHARE_COUNTS:
+        trace = Trace(bytes(aes_random(s)))
+        masked_aes(trace, s, bytes(16 * s), bytes(16 * s))
+        same("AES counts", trace.counts(), (800, 400 * s * (s - 1), aes_steps(s)))
+        same("parts end", list(aes_parts(s))[-1] + 16 * s, aes_steps(s))
+        same("shares touched", max(map(len, trace.touched)), min(s, 2))
+        if s in (1, 3, 5, 9):
+            rows.append(trace.counts()[1:])
+    same("AES totals", rows, [(0, 3090), (2400, 26050), (8000, 71410), (28800, 229330)])
+
+
+def joined_aes(prng, s, key, plain):
+    random, out = prng.bytes(aes_random(s)), b"\xee" * 16 * s
+    answer = aes_block(s, sharing(prng, key, s), sharing(prng, plain, s), random, out)
+    return join(answer.outputs[0], s, b"\xee" * 16).outputs[0]
+
+
+def test_aes_block():
+    prng = Prng(11)
+    for s in SHARE_COUNTS:
+        for key, plain, ciphertext in aes.vectors():
+            same("vector, masked", joined_aes(prng, s, key, plain), ciphertext)
+        key, plain = prng.bytes(16), prng.bytes(16)
+        same("masked is unmasked", joined_aes(prng, s, key, plain), aes.encrypt(key, plain))
+
+
+def test_aes_edges():
+    for s, number in ((0, 7), (1, 0), (9, 0), (10, 7), (2**32 - 1, 7)):
+        n = s if s < 11 else 1
+        inputs = s, bytes(16 * n), bytes(16 * n), bytes(aes_random(n))
+        same("AES share count", aes_block(*inputs, bytes(16 * n)).number, number)
+        same("watch AES share count", aes_block_watch(*inputs, [], b"").number, number)
+    out = b"\xee" * 48
+    for n, number in ((2399, 2), (2400, 0), (2401, 2)):
+        answer = aes_block(3, bytes(48), bytes(48), bytes(n), out)
+        same("random bytes of AES, three shares", answer.number, number)
+        same("unchanged if refused", answer.outputs[0] == out, number != 0)
+    inputs = 3, bytes(48), bytes(48), bytes(2400)
+    same("last step", aes_block_watch(*inputs, [26049], b"\xee").number, 0)
+    answer = aes_block_watch(*inputs, [26049, 26050], b"\xee\xee")
+    same("no step", answer, (8, (1,), (b"\xee\xee",)))
+    same("65 numbers", aes_block_watch(*inputs, [26050] * 65, b"\xee" * 65).number, 2)
+    same("unequal", aes_block_watch(*inputs, [26050], b"").number, 2)
+
+
+def test_aes_watch():
+    """A watch shows the trace, place by place."""
+    prng = Prng(12)
+    inputs = prng.bytes(32), prng.bytes(32), prng.bytes(aes_random(2))
+    trace = Trace(inputs[2])
+    masked_aes(trace, 2, *inputs[:2])
+    total = len(trace.values)
+    steps = [total - 1, 0, 5, 5, *[prng.below(total) for _ in range(60)]]
+    answer = aes_block_watch(2, *inputs, steps, b"\xee" * 64)
+    same("watched values", list(answer.outputs[0]), [trace.values[k] for k in steps])
+    same("watched counts", answer.values, trace.counts())
+    same("empty list", aes_block_watch(2, *inputs, [], b"").outputs, (b"",))
+
+
 # ------------------------------------------------------------------- demand 3
 
 
@@ -381,6 +661,8 @@ def test_case_files():
         "house_fit": {0, 2, 3},
         "sbox": {0, 1, 2, 3, 5, 7},
         "sbox_watch": {0, 1, 2, 3, 5, 7, 8},
+        "aes_block": {0, 2, 7},
+        "aes_block_watch": {0, 2, 7, 8},
         "split": {0, 2, 7},
         "join": {0, 2, 7},
     }
@@ -401,6 +683,18 @@ TESTS = (
     test_block_totals,
     test_block,
     test_watch,
+    test_aes,
+    test_aes_first_round,
+    test_aes_expansion,
+    test_aes_sbox,
+    test_aes_sbox_steps,
+    test_aes_key_steps,
+    test_aes_round_steps,
+    test_aes_last_round,
+    test_aes_totals,
+    test_aes_block,
+    test_aes_edges,
+    test_aes_watch,
     test_two_shares,
     test_case_files,
 )

@@ -149,10 +149,10 @@ def cut_shares(data, s):
 
 
 def record_all(trace, sharing):
-    """One step for each nibble, share by share, nibble 0 first."""
-    for share, nibbles in enumerate(sharing):
-        for nibble in nibbles:
-            trace.step(nibble, (share,))
+    """One step for each nibble (of AES each byte), share by share, number 0 first."""
+    for share, parts in enumerate(sharing):
+        for part in parts:
+            trace.step(part, (share,))
     return sharing
 
 

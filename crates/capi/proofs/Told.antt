@@ -21,6 +21,7 @@ use Rattle.decomposition.specs.Layout.{layout, known}
 use Rattle.decomposition.specs.Solution.{solvable}
 use Rattle.sbox.specs.Operations as sbox
 use Rattle.cipher.specs.Operations as cipher
+use Rattle.aes.specs.Operations as aes
 use Rattle.capi.specs.Words.{words, Told}
 
 -- a test whose number is not 0, before tests of which the same is said
@@ -123,6 +124,24 @@ pub block-watch-told : (r : List ℕ) (s : ℕ) (key block random list : List �
 unfolding cipher.watchOutcome cipher.blockCall
 block-watch-told r s key block random list values =
     watch-told (cipher.blockCall r s key block random) list values (block-tests-told r s key block random (listFits (length list) values))
+
+aes-tests-told : (s key block random : ℕ) (fits : Bool) → Told (aes.callTests s key block random fits)
+unfolding aes.callTests
+aes-tests-told s key block random fits =
+    told-test (oneTo 9 s) 7 0 _ (omega arith)
+    (told-test (aes.blockLengths s key block random fits) 2 0 (done []) (omega arith) tt)
+
+pub aes-block-told : (s : ℕ) (key block random : List ℕ) (out : ℕ) → Told (aes.blockOutcome s key block random out)
+unfolding aes.blockOutcome aes.blockCall
+aes-block-told s key block random out =
+    call-told (aes.blockCall s key block random) (eqb out (16 * s))
+    (aes-tests-told s (length key) (length block) (length random) (eqb out (16 * s)))
+
+pub aes-block-watch-told : (s : ℕ) (key block random list : List ℕ) (values : ℕ) → Told (aes.watchOutcome s key block random list values)
+unfolding aes.watchOutcome aes.blockCall
+aes-block-watch-told s key block random list values =
+    watch-told (aes.blockCall s key block random) list values
+    (aes-tests-told s (length key) (length block) (length random) (listFits (length list) values))
 
 pub split-told : (value s masks out : ℕ) → Told (splitOutcome value s masks out)
 unfolding splitOutcome

@@ -8,7 +8,10 @@ ghost use Rattle.decomposition.specs.Check.{checkOutcome};
 ghost use Rattle.decomposition.specs.Fit.{houseCall};
 ghost use Rattle.sbox.specs.Operations.{sboxOutcome, sboxOutput, watchOutcome, watchOutput};
 ghost use Rattle.cipher.specs.Operations.{blockOutcome, blockOutput, watchOutcome as block·watchOutcome, watchOutput as block·watchOutput};
+ghost use Rattle.aes.specs.Operations.{blockOutcome as aes·blockOutcome, blockOutput as aes·blockOutput, watchOutcome as aes·watchOutcome, watchOutput as aes·watchOutput};
 ghost use Rattle.capi.specs.Words.{words, Reported, ReportedFit};
+use aes::BlockAnswer as AesBlockAnswer;
+use aes::WatchAnswer as AesWatchAnswer;
 use cipher::BlockAnswer;
 use cipher::WatchAnswer as BlockWatchAnswer;
 use decomposition::CheckAnswer;
@@ -197,6 +200,63 @@ pub extern "C" fn ll_block_watch(
             steps,
         } => { put(answer, 0, products as u64, random as u64, steps as u64) }
         BlockWatchAnswer::Refused { number, place } => {
+            put(answer, number as u64, place as u64, 0, 0)
+        }
+    }
+}
+
+// AES block hands back how many products, random bytes and steps it took.
+#[no_mangle]
+pub extern "C" fn ll_aes_block(
+    s: u32,
+    key_shares: &[u8],
+    block_shares: &[u8],
+    random: &[u8],
+    out: &mut [u8],
+    answer: &mut [u64; 4],
+)
+    ensures { λ u. ⌜ Reported
+        (aes·blockOutcome s (now («key_shares» .entry)) (now («block_shares» .entry)) (now (random .entry)) (length (now (out .entry))))
+        (aes·blockOutput s (now («key_shares» .entry)) (now («block_shares» .entry)) (now (random .entry)))
+        (now (out .entry)) (now (answer .exit)) (now (out .exit)) ⌝ }
+{
+    let a = aes::block(s, key_shares, block_shares, random, out);
+    match a {
+        AesBlockAnswer::Done {
+            products,
+            random,
+            steps,
+        } => { put(answer, 0, products as u64, random as u64, steps as u64) }
+        AesBlockAnswer::Refused { number, place } => {
+            put(answer, number as u64, place as u64, 0, 0)
+        }
+    }
+}
+
+// Watch AES block hands back the same.
+#[no_mangle]
+pub extern "C" fn ll_aes_block_watch(
+    s: u32,
+    key_shares: &[u8],
+    block_shares: &[u8],
+    random: &[u8],
+    list: &[u32],
+    values: &mut [u8],
+    answer: &mut [u64; 4],
+)
+    ensures { λ u. ⌜ Reported
+        (aes·watchOutcome s (now («key_shares» .entry)) (now («block_shares» .entry)) (now (random .entry)) (now (list .entry)) (length (now (values .entry))))
+        (aes·watchOutput s (now («key_shares» .entry)) (now («block_shares» .entry)) (now (random .entry)) (now (list .entry)))
+        (now (values .entry)) (now (answer .exit)) (now (values .exit)) ⌝ }
+{
+    let a = aes::watch_block(s, key_shares, block_shares, random, list, values);
+    match a {
+        AesWatchAnswer::Done {
+            products,
+            random,
+            steps,
+        } => { put(answer, 0, products as u64, random as u64, steps as u64) }
+        AesWatchAnswer::Refused { number, place } => {
             put(answer, number as u64, place as u64, 0, 0)
         }
     }

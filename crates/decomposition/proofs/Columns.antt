@@ -14,6 +14,7 @@ use Rattle.xor.proofs.Sum.{sum-of-same}
 use Rattle.field.specs.Mul.{mul, Ring}
 use Rattle.field.specs.Polynomial.{exponents}
 use Rattle.field.proofs.Inverses.{field-of}
+use Rattle.field.proofs.Turns.{narrow-width}
 use Rattle.field.proofs.Power.{pow-small}
 use Rattle.field.proofs.Ring.{mul-comm, mul-small, mul-one-left}
 use Rattle.linear.specs.Row.{RowElements, dot, times}
@@ -38,7 +39,7 @@ sum-of-last (suc k) f h = let e : suc k - 1 ≡ k = omega arith in rw e refl
 
 module _ {L : Layout} (z : Sizes L) where
   ring : Ring (L .width)
-  ring = field-of (L .width) (z .width) .ring
+  ring = field-of (L .width) (narrow-width (L .width) (z .width)) .ring
 
   pub monomial-small : (x j : ℕ) → x < 2 ^ L .width → monomial (L .width) x j < 2 ^ L .width
   unfolding monomial

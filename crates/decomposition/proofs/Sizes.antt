@@ -8,7 +8,8 @@ use native.Mathlib.Omega.{arith}
 use lib.Dec.{eqb}
 use lib.ListN.{length}
 use borrow.Author.Tests.{eqb-true}
-use Rattle.field.specs.Mul.{Width}
+use Rattle.field.specs.Mul.{Width, Narrow}
+use Rattle.field.proofs.Turns.{narrow-width}
 use Rattle.field.specs.Polynomial.{exponents}
 use Rattle.field.proofs.Polynomial.{length-exponents-4, length-exponents-6}
 use Rattle.field.proofs.Turns.{width-le}
@@ -34,9 +35,12 @@ known-both P four six n w = go (either (eqb n 4) (eqb n 6) w)
 pub known-6 : (n : ℕ) → Known n → (n ≡ 4 → ⊥) → n ≡ 6
 known-6 = known-both (λ n. (n ≡ 4 → ⊥) → n ≡ 6) (λ h. absurd (h refl)) (λ h. refl)
 
--- each is a width of the field
+-- each is a width at which the code multiplies, and so one of the field
+pub known-narrow : (n : ℕ) → Known n → Narrow n
+known-narrow = known-both Narrow (inl refl) (inr refl)
+
 pub known-width : (n : ℕ) → Known n → Width n
-known-width = known-both Width (inl refl) (inr refl)
+known-width n k = narrow-width n (known-narrow n k)
 
 -- ---- the layouts
 
@@ -57,7 +61,7 @@ unfolding layout sized
 sizes n k =
     let f = few n k in
     record {
-      width = known-width n k;
+      width = known-narrow n k;
       inputs = refl;
       listed = refl;
       unknowns = refl;
@@ -99,7 +103,7 @@ module _ {L : Layout} (z : Sizes L) where
   powers-few = rw (z .powers) (mul-le-mul {n₂ = 256} {m₂ = 218} (omega (arith, z .byte)) (omega (arith, unknowns-few)))
 
   pub width-few : L .width ≤ 8
-  width-few = width-le (L .width) (z .width)
+  width-few = width-le (L .width) (narrow-width (L .width) (z .width))
 
   -- polynomial number i lies within the solution, and within the basis unless it is the last
   pub block-room : {i : ℕ} → i < L .terms → i * L .exponents + L .exponents ≤ L .unknowns

@@ -9,6 +9,7 @@ use Rattle.field.specs.Polynomial.{exponents, combination, value}
 use Rattle.field.specs.Power.{pow, Field}
 use Rattle.field.proofs.Bilinear.{mul-zero-left}
 use Rattle.field.proofs.Inverses.{field-of}
+use Rattle.field.proofs.Turns.{narrow-width}
 use Rattle.linear.specs.Buffer.{from}
 use Rattle.linear.specs.Row.{dot}
 use Rattle.linear.specs.Scalars.{scalars}
@@ -43,7 +44,7 @@ value-dot {L} z l i x =
     let n = L .width in
     let e = L .exponents in
     let powers : List ℕ = map (pow n x) (exponents n) in
-    combination-dot (field-of n (z .width)) (polynomial L l i) powers
+    combination-dot (field-of n (narrow-width n (z .width))) (polynomial L l i) powers
     ∙ ap (λ (k : ℕ). dot (scalars n) k (λ j. getD (polynomial L l i) j 0) (λ j. getD powers j 0)) (length-map (pow n x) (exponents n) ∙ z .listed)
     ∙ dot-agree (scalars n) e
     (record { at = λ j h. getD-take e (drop (i * e) l) j 0 h ∙ getD-drop (i * e) l j 0 })

@@ -4,7 +4,7 @@ use mathlib.Core.Path.{_≡_}
 use Prim.Native.Nat.{ℕ, _+_, _-_, _*_, _^_, _<_}
 use lib.Dec.{eqb}
 use lib.ListN.{length}
-use Rattle.field.specs.Mul.{Width}
+use Rattle.field.specs.Mul.{Narrow}
 use Rattle.field.specs.Polynomial.{exponents}
 use Rattle.decomposition.specs.declared.layouts.Layout.{Layout}
 
@@ -45,7 +45,7 @@ layout n = sized n (length (exponents n)) (termsOf n)
 
 -- what the theory asks of a layout: its width is one of the field, its parts fit together, and are small enough for bytes and indices
 pub record Sizes (L : Layout) : Type 0 where
-  pub width : Width (L .width)
+  pub width : Narrow (L .width)
   pub inputs : L .inputs ≡ 2 ^ L .width
   pub listed : length (exponents (L .width)) ≡ L .exponents
   pub unknowns : L .unknowns ≡ L .terms * L .exponents

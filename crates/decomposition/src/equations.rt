@@ -2,7 +2,7 @@
 ghost use mathlib.Core.Path.{_≡_};
 ghost use Prim.Native.Nat.{ℕ, _+_, _*_, _<_, _≤_};
 ghost use lib.ListN.{length};
-ghost use Rattle.field.specs.Mul.{Width};
+ghost use Rattle.field.specs.Mul.{Narrow};
 ghost use Rattle.linear.specs.Scalars.{scalars};
 ghost use Rattle.linear.specs.Row.{Agree, times};
 ghost use Rattle.linear.specs.Buffer.{from, Overwritten};
@@ -32,7 +32,7 @@ pub fn powers(layout: Layout, work: &mut [u8])
 
 // Writes f times the bytes at p from a on.
 fn multiple(width: u32, count: usize, work: &mut [u8], a: usize, p: usize, f: u8)
-    requires { ⌜ Width width ⌝ }
+    requires { ⌜ Narrow width ⌝ }
     requires { ⌜ (a + count ≤ p) × (p + count ≤ length (now work)) ⌝ }
     ensures { λ _. ⌜ Overwritten (now (work .entry)) (now (work .exit)) a count (times (scalars width) f (from (now (work .entry)) p)) ⌝ }
 {

@@ -2,7 +2,7 @@
 ghost use mathlib.Core.Path.{_≡_};
 ghost use Prim.Native.Nat.{ℕ, _+_, _-_, _^_, _<_, _≤_};
 ghost use lib.ListN.{length};
-ghost use Rattle.field.specs.Mul.{Width};
+ghost use Rattle.field.specs.Mul.{Narrow};
 ghost use Rattle.field.specs.Power.{pow};
 ghost use Rattle.field.specs.Polynomial.{exponents};
 ghost use Rattle.linear.specs.Scalars.{scalars};
@@ -15,7 +15,7 @@ use crate::layouts::Layout;
 
 // x to the power `next`, where `power` is x to the power e: its square, if `next` follows e.
 fn next_power(width: u32, x: u8, e: u8, power: u8, next: u8) -> u8
-    requires { ⌜ Width width ⌝ }
+    requires { ⌜ Narrow width ⌝ }
     requires { ⌜ (x < 2 ^ width) × (power ≡ pow width x e) ⌝ }
     ensures { λ r. ⌜ r ≡ pow width x next ⌝ }
 {
@@ -28,7 +28,7 @@ fn next_power(width: u32, x: u8, e: u8, power: u8, next: u8) -> u8
 
 // Writes the powers of x from a on, one for each of the first exponents.
 pub fn power_row(width: u32, count: usize, out: &mut [u8], a: usize, x: u8)
-    requires { ⌜ Width width ⌝ }
+    requires { ⌜ Narrow width ⌝ }
     requires { ⌜ (x < 2 ^ width) × (count ≤ length (exponents width)) × (a + count ≤ length (now out)) ⌝ }
     ensures { λ _. ⌜ Overwritten (now (out .entry)) (now (out .exit)) a count (monomial width x) ⌝ }
 {
@@ -53,7 +53,7 @@ pub fn evaluate(
     powers: &[u8],
     a: usize,
 ) -> u8
-    requires { ⌜ Width width ⌝ }
+    requires { ⌜ Narrow width ⌝ }
     requires { ⌜ (b + count ≤ length (now coefficients)) × (a + count ≤ length (now powers)) ⌝ }
     ensures { λ r. ⌜ r ≡ dot (scalars width) count (from (now (coefficients .entry)) b) (from (now (powers .entry)) a) ⌝ }
 {

@@ -31,7 +31,7 @@ bit-⊕ d a b hd = go (bit-cases d hd)
     go (inl p) = rw (p, zero-mul (a ⊕ b), zero-mul a, zero-mul b) (sym (⊕-zero 0))
     go (inr p) = rw (p, one-mul (a ⊕ b), one-mul a, one-mul b) refl
 
-⊕-bit : (d e a : ℕ) → d < 2 → e < 2 → (d ⊕ e) * a ≡ d * a ⊕ e * a
+pub ⊕-bit : (d e a : ℕ) → d < 2 → e < 2 → (d ⊕ e) * a ≡ d * a ⊕ e * a
 unfolding _⊕_
 ⊕-bit d e a hd he = go (bit-cases d hd) (bit-cases e he)
   where

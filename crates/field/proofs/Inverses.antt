@@ -1,6 +1,6 @@
 -- Inverses: the widths of the library are fields, each by one computed test; and what follows in every field.
 use mathlib.Core.Logic.{inl, inr}
-use mathlib.Core.Path.{_≡_, sym, ap, ap₂, _∙_, subst}
+use mathlib.Core.Path.{_≡_, refl, sym, ap, ap₂, _∙_, subst}
 use Prim.Native.Nat.{ℕ, zero, suc, _+_, _-_, _*_, _^_, _<_}
 use native.Mathlib.Nat.{not-suc-le-zero}
 use native.Mathlib.Omega.{arith}
@@ -10,7 +10,7 @@ use Rattle.xor.specs.Xor.{_⊕_}
 use Rattle.field.specs.Mul.{Width, reduction, modulus, double, doubleAndAdd, mul, Ring}
 use Rattle.field.specs.Power.{pow, square, inverse, Field}
 use Rattle.field.proofs.Bilinear.{mul-zero}
-use Rattle.field.proofs.Ring.{ring-4, ring-6, mul-comm, mul-one, one-lt}
+use Rattle.field.proofs.Ring.{ring-4, ring-6, ring-8, mul-comm, mul-one, one-lt, two-lt}
 use Rattle.field.proofs.Power.{pow-suc, pow-add, pow-twice, pow-small, pow-one}
 use Rattle.field.proofs.Tests.{all, same-below}
 
@@ -75,9 +75,19 @@ pub field-6 : Field 6
 unfolding products chain
 field-6 = field-by ring-6 tt
 
+pub field-8 : Field 8
+unfolding products chain
+field-8 = field-by ring-8 tt
+
 pub field-of : (n : ℕ) → Width n → Field n
 field-of n (inl e) = subst Field (sym e) field-4
-field-of n (inr e) = subst Field (sym e) field-6
+field-of n (inr (inl e)) = subst Field (sym e) field-6
+field-of n (inr (inr e)) = subst Field (sym e) field-8
+
+-- at width 8 the inverse is the power 254
+pub inverse-254 : (a : ℕ) → inverse 8 a ≡ pow 8 a 254
+unfolding inverse
+inverse-254 a = refl
 
 -- ---- what follows in every field
 
@@ -86,16 +96,21 @@ module _ {n : ℕ} (field : Field n) where
   unfolding inverse
   inverse-small a h = pow-small (field .ring) a (2 ^ n - 2) h
 
+  -- the powers of 0 but power 0 are 0
+  power-of-zero : (k : ℕ) → 0 < k → pow n 0 k ≡ 0
+  power-of-zero zero p = absurd (not-suc-le-zero p)
+  power-of-zero (suc k) p =
+      pow-suc n 0 k ∙ mul-comm n 0 (pow n 0 k) (pow-pos n) (pow-small (field .ring) 0 k (pow-pos n)) ∙ mul-zero n (pow n 0 k)
+
+  -- so the inverse, as a power, is 0 at 0
+  pub inverse-zero : inverse n 0 ≡ 0
+  unfolding inverse
+  inverse-zero = power-of-zero (2 ^ n - 2) (omega (arith, two-lt (field .ring)))
+
   -- x to the power 2 ^ n is x, at 0 too
   pub fermat : (x : ℕ) → x < 2 ^ n → pow n x (2 ^ n) ≡ x
   unfolding inverse
-  fermat zero h = subst (λ (e : ℕ). pow n 0 e ≡ 0) whole (pow-suc n 0 (2 ^ n - 1) ∙ zero-left)
-    where
-      whole : suc (2 ^ n - 1) ≡ 2 ^ n
-      whole = omega (arith, pow-pos n)
-
-      zero-left : mul n 0 (pow n 0 (2 ^ n - 1)) ≡ 0
-      zero-left = mul-comm n 0 (pow n 0 (2 ^ n - 1)) (pow-pos n) (pow-small (field .ring) 0 (2 ^ n - 1) (pow-pos n)) ∙ mul-zero n (pow n 0 (2 ^ n - 1))
+  fermat zero h = power-of-zero (2 ^ n) (pow-pos n)
   fermat (suc i) h =
       ap (pow n (suc i)) whole ∙ pow-suc n (suc i) (suc (2 ^ n - 2)) ∙ ap (mul n (suc i)) (pow-suc n (suc i) (2 ^ n - 2) ∙ inverts)
       ∙ mul-one (field .ring) (suc i)

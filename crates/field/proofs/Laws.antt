@@ -1,4 +1,4 @@
--- Every width that is a field has all laws of the record `Laws`; so have widths 4 and 6.
+-- Every width that is a field has all laws of the record `Laws`; so have widths 4, 6 and 8.
 use Prim.Native.Nat.{ℕ}
 use Rattle.xor.proofs.Xor.{⊕-assoc, ⊕-comm, ⊕-zero, ⊕-self, ⊕-lt}
 use Rattle.field.specs.Mul.{Width}
@@ -8,7 +8,7 @@ use Rattle.field.proofs.Bilinear.{mul-⊕, ⊕-mul}
 use Rattle.field.proofs.Ring.{mul-comm, mul-assoc, mul-one-left, mul-small}
 use Rattle.field.proofs.Remainder.{remainder, remainder-unique}
 use Rattle.field.proofs.Power.{powers-of-y, reduced, square-add}
-use Rattle.field.proofs.Inverses.{field-of, inverse-small}
+use Rattle.field.proofs.Inverses.{field-of, inverse-small, inverse-zero}
 
 pub laws : (n : ℕ) → Field n → Laws n
 laws n field =
@@ -26,6 +26,7 @@ laws n field =
       distributes-right = ⊕-mul n;
       inverse-closed = inverse-small field;
       inverts = field .inverts;
+      inverse-zero = inverse-zero field;
       powers-of-y = powers-of-y (field .ring);
       reduced = reduced n (field .ring);
       remainder = remainder n (field .ring .reduces);

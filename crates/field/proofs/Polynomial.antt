@@ -13,7 +13,7 @@ use Rattle.xor.specs.Xor.{_⊕_}
 use Rattle.xor.specs.Sum.{Small, addLists}
 use Rattle.xor.proofs.Xor.{⊕-zero, ⊕-exchange, ⊕-lt}
 use Rattle.xor.proofs.Sum.{small-head, small-tail}
-use Rattle.field.specs.Mul.{Width, mul, Ring}
+use Rattle.field.specs.Mul.{Width, Narrow, mul, Ring}
 use Rattle.field.specs.Power.{pow, square, Field}
 use Rattle.field.specs.Polynomial.{classes, class, exponents, follows, combination}
 use Rattle.field.proofs.Bilinear.{mul-⊕}
@@ -68,7 +68,7 @@ squares-by {n} field few t c i x h l = elim (decLt c 4) [
 ]
 
 -- within a class each next power is the square of the one before
-pub class-squares : (n : ℕ) → Width n → (c i x : ℕ) → x < 2 ^ n → suc i < length (class n c)
+pub class-squares : (n : ℕ) → Narrow n → (c i x : ℕ) → x < 2 ^ n → suc i < length (class n c)
     → pow n x (getD (class n c) (suc i) 0) ≡ square n (pow n x (getD (class n c) i 0))
 unfolding classes follows
 class-squares n (inl e) = rw e (squares-by field-4 (lit≤ tt) tt)

@@ -20,6 +20,10 @@ pub ring-6 : Ring 6
 unfolding reduction
 ring-6 = record { wide = lit< tt; reduces = lit< tt }
 
+pub ring-8 : Ring 8
+unfolding reduction
+ring-8 = record { wide = lit< tt; reduces = lit< tt }
+
 -- a doubled k times
 unfoldable pub doubled : ℕ → ℕ → ℕ → ℕ
 doubled n zero a = a

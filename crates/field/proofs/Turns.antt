@@ -10,18 +10,25 @@ use lib.Bits.{bitXor}
 use lib.Pow.{pow-pos, mod-pow-add, shr-shr}
 use Rattle.xor.specs.Xor.{_⊕_}
 use Rattle.xor.proofs.Xor.{bit-cases, ⊕-is, ⊕-zero, ⊕-comm, top-bit}
-use Rattle.field.specs.Mul.{Width, double, mul}
+use Rattle.field.specs.Mul.{Width, Narrow, double, mul}
 use Rattle.field.specs.Power.{square}
 use Rattle.field.proofs.Bilinear.{odd-lt, mul-⊕}
 use Rattle.field.proofs.Ring.{doubled, doubled-double, mul-doubled}
 use Rattle.field.proofs.Inverses.{chain}
 
--- a width that is not 4 is 6
-pub width-6 : (n : ℕ) → Width n → (n ≡ 4 → ⊥) → n ≡ 6
-width-6 n w h = ⊎-elim (λ e. absurd (h e)) (λ e. e) w
+pub narrow-width : (n : ℕ) → Narrow n → Width n
+narrow-width n w = ⊎-elim inl (λ e. inr (inl e)) w
+
+-- a narrow width other than 4 is 6
+pub narrow-6 : (n : ℕ) → Narrow n → (n ≡ 4 → ⊥) → n ≡ 6
+narrow-6 n w h = ⊎-elim (λ e. absurd (h e)) (λ e. e) w
+
+-- a width that is neither 8 nor 4 is 6
+pub width-6 : (n : ℕ) → Width n → (n ≡ 8 → ⊥) → (n ≡ 4 → ⊥) → n ≡ 6
+width-6 n w h k = ⊎-elim (λ e. absurd (k e)) (λ v. ⊎-elim (λ e. e) (λ e. absurd (h e)) v) w
 
 pub width-le : (n : ℕ) → Width n → n ≤ 8
-width-le n w = ⊎-elim (λ e. omega arith) (λ e. omega arith) w
+width-le n w = ⊎-elim (λ e. omega arith) (λ v. ⊎-elim (λ e. omega arith) (λ e. omega arith) v) w
 
 -- ---- double and add: x is a doubled k times, rest is b without its k low bits, and the sum is a times these bits
 

@@ -23,6 +23,7 @@ pub record Laws (n : ℕ) : Type 0 where
   -- a field
   pub inverse-closed : (a : ℕ) → a < 2 ^ n → inverse n a < 2 ^ n
   pub inverts : (a : ℕ) → 0 < a → a < 2 ^ n → mul n a (inverse n a) ≡ 1
+  pub inverse-zero : inverse n 0 ≡ 0
   -- element 2 is y: element 2 ^ i is y ^ i below the width, and y ^ n is reduced
   pub powers-of-y : (i : ℕ) → i < n → pow n 2 i ≡ 2 ^ i
   pub reduced : pow n 2 n ≡ reduction n

@@ -9,13 +9,17 @@ use Rattle.xor.specs.Xor.{_⊕_}
 
 -- the widths at which there is a field in the library
 abbrev pub Width : ℕ → Type 0
-Width n = (n ≡ 4) ⊎ (n ≡ 6)
+Width n = (n ≡ 4) ⊎ ((n ≡ 6) ⊎ (n ≡ 8))
 
--- what y ^ n is reduced to, by width: y + 1 at 4 and at 6
+-- those of them that have a decomposition: the widths of `mul` and what is built on it in the code, where 8 would cost time
+abbrev pub Narrow : ℕ → Type 0
+Narrow n = (n ≡ 4) ⊎ (n ≡ 6)
+
+-- what y ^ n is reduced to, by width: y + 1 at 4 and at 6, y ^ 4 + y ^ 3 + y + 1 at 8
 unfoldable pub reduction : ℕ → ℕ
-reduction n = cond (eqb n 4) 3 (cond (eqb n 6) 3 0)
+reduction n = cond (eqb n 4) 3 (cond (eqb n 6) 3 (cond (eqb n 8) 27 0))
 
--- the polynomial by which products are reduced: y ^ 4 + y + 1, y ^ 6 + y + 1
+-- the polynomial by which products are reduced: y ^ 4 + y + 1, y ^ 6 + y + 1, y ^ 8 + y ^ 4 + y ^ 3 + y + 1
 unfoldable pub modulus : ℕ → ℕ
 modulus n = 2 ^ n + reduction n
 

@@ -1,9 +1,9 @@
-// The fields of 16 and 64 elements. The width is public; elements decide no branch and no index in `mul` and `square`.
+// The fields of 16, 64 and 256 elements. The width is public; elements decide no branch and no index in `mul` and `square`.
 ghost use mathlib.Core.Path.{_≡_};
 ghost use Prim.Native.Nat.{_^_, _<_};
 ghost use lib.ListN.{length, getD};
 ghost use Rattle.field.specs.Mul as spec;
-ghost use Rattle.field.specs.Mul.{Width};
+ghost use Rattle.field.specs.Mul.{Width, Narrow};
 ghost use Rattle.field.specs.Power as power;
 ghost use Rattle.field.specs.Polynomial as polynomial;
 ghost use Rattle.field.specs.Polynomial.{exponents};
@@ -35,7 +35,7 @@ pub const EXPONENTS_6: [u8; 19] = [
 
 // Exponent number i of the width's list.
 pub fn exponent(width: u32, i: usize) -> u8
-    requires { ⌜ Width width ⌝ }
+    requires { ⌜ Narrow width ⌝ }
     requires { ⌜ i < length (exponents width) ⌝ }
     ensures { λ r. ⌜ r ≡ getD (exponents width) i 0 ⌝ }
 {
@@ -48,7 +48,7 @@ pub fn exponent(width: u32, i: usize) -> u8
 
 // Whether an exponent follows another in a class: so its power is the square of the other's.
 pub fn follows(width: u32, e: u8, next: u8) -> bool
-    requires { ⌜ Width width ⌝ }
+    requires { ⌜ Narrow width ⌝ }
     ensures { λ r. ⌜ r ≡ polynomial.follows width e next ⌝ }
 {
     let twice = 2 * (e as u32);
@@ -64,12 +64,15 @@ pub fn follows(width: u32, e: u8, next: u8) -> bool
     twice == next as u32 + 63
 }
 
-// y times a, for every byte a: the bits below the top one move up, and the top one is reduced.
-fn double(width: u32, a: u8) -> u8
+// y times a, for every byte a: the bits below the top one move up, and the top one is reduced. Width 8 is tested first: where the compiler knows that
+// the width is 4 or 6, one test is left.
+pub fn double(width: u32, a: u8) -> u8
     requires { ⌜ Width width ⌝ }
     ensures { λ r. ⌜ r ≡ spec.double width a ⌝ }
 {
-    if width == 4 {
+    if width == 8 {
+        (a % 128 * 2) ^ (a / 128 % 2 * 27)
+    } else if width == 4 {
         (a % 8 * 2) ^ (a / 8 % 2 * 3)
     } else {
         (a % 32 * 2) ^ (a / 32 % 2 * 3)
@@ -96,7 +99,7 @@ pub fn double_and_add(width: u32, a: u8, b: u8) -> u8
 
 // The product of a and b, for all bytes. The width is tested outside the loop, so that the loop is of known length at each width.
 pub fn mul(width: u32, a: u8, b: u8) -> u8
-    requires { ⌜ Width width ⌝ }
+    requires { ⌜ Narrow width ⌝ }
     ensures { λ r. ⌜ r ≡ spec.mul width a b ⌝ }
 {
     if width == 4 {
@@ -108,7 +111,7 @@ pub fn mul(width: u32, a: u8, b: u8) -> u8
 
 // The square of a.
 pub fn square(width: u32, a: u8) -> u8
-    requires { ⌜ Width width ⌝ }
+    requires { ⌜ Narrow width ⌝ }
     ensures { λ r. ⌜ r ≡ power.square width a ⌝ }
 {
     mul(width, a, a)
@@ -116,7 +119,7 @@ pub fn square(width: u32, a: u8) -> u8
 
 // a to the power e, by e products: for public values.
 pub fn pow(width: u32, a: u8, e: u8) -> u8
-    requires { ⌜ Width width ⌝ }
+    requires { ⌜ Narrow width ⌝ }
     ensures { λ r. ⌜ r ≡ power.pow width a e ⌝ }
 {
     let mut product: u8 = 1;
@@ -130,7 +133,7 @@ pub fn pow(width: u32, a: u8, e: u8) -> u8
 
 // The inverse of an element but 0, as the product of a ^ 2, a ^ 4, a ^ 8 ..; of 0 it is 0.
 pub fn inverse(width: u32, a: u8) -> u8
-    requires { ⌜ Width width ⌝ }
+    requires { ⌜ Narrow width ⌝ }
     requires { ⌜ a < 2 ^ width ⌝ }
     ensures { λ r. ⌜ r ≡ power.inverse width a ⌝ }
 {

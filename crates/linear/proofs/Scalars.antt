@@ -2,11 +2,12 @@
 use Prim.Native.Nat.{ℕ}
 use native.Mathlib.Omega.{arith}
 use Rattle.xor.proofs.Xor.{⊕-assoc, ⊕-comm, ⊕-zero, ⊕-self, ⊕-lt}
-use Rattle.field.specs.Mul.{Width}
+use Rattle.field.specs.Mul.{Narrow}
 use Rattle.field.specs.Power.{Field}
 use Rattle.field.proofs.Bilinear.{mul-⊕, mul-zero}
 use Rattle.field.proofs.Ring.{mul-comm, mul-assoc, mul-one, one-lt, mul-small}
 use Rattle.field.proofs.Inverses.{field-of, inverse-small}
+use Rattle.field.proofs.Turns.{narrow-width}
 use Rattle.linear.specs.Scalars.{ScalarLaws, scalars}
 
 pub scalar-laws : {n : ℕ} → Field n → ScalarLaws (scalars n)
@@ -29,6 +30,6 @@ scalar-laws {n} f =
       mul-inv = λ {a} h nz. f .inverts a (omega (arith, nz)) h;
     }
 
--- the widths that the library works at
-pub laws-of : {n : ℕ} → Width n → ScalarLaws (scalars n)
-laws-of {n} w = scalar-laws (field-of n w)
+-- the widths that the code solves at
+pub laws-of : {n : ℕ} → Narrow n → ScalarLaws (scalars n)
+laws-of {n} w = scalar-laws (field-of n (narrow-width n w))

@@ -1,7 +1,7 @@
 // Gauss-Jordan elimination, column by column.
 ghost use Prim.Native.Nat.{_+_, _*_, _<_, _≤_};
 ghost use lib.ListN.{length, getD};
-ghost use Rattle.field.specs.Mul.{Width};
+ghost use Rattle.field.specs.Mul.{Narrow};
 ghost use Rattle.linear.specs.Scalars.{scalars};
 ghost use Rattle.linear.specs.Row.{Agree};
 ghost use Rattle.linear.specs.Elimination.{Eliminated, Pivot, PivotAdded, Cleared};
@@ -37,7 +37,7 @@ fn add_pivot_row(
     rank: usize,
     pivot: usize,
 )
-    requires { ⌜ Width width ⌝ }
+    requires { ⌜ Narrow width ⌝ }
     requires { ⌜ Grid (scalars width) (now matrix) rows columns × (rank < rows) × (pivot < rows) × (columns ≤ 256) ⌝ }
     ensures { λ _. ⌜ PivotAdded (scalars width) rows columns rank pivot (cell columns (now (matrix .entry))) (cell columns (now (matrix .exit))) ⌝ }
 {
@@ -60,7 +60,7 @@ fn clear_rows(
     rank: usize,
     row: &[u8],
 )
-    requires { ⌜ Width width ⌝ }
+    requires { ⌜ Narrow width ⌝ }
     requires { ⌜ Grid (scalars width) (now matrix) rows columns × (column < columns) × (rank < rows) × (columns ≤ length (now row))
         × Agree columns (λ k. getD (now row) k 0) (cell columns (now matrix) rank) ⌝ }
     ensures { λ _. ⌜ Cleared (scalars width) rows columns column rank rows
@@ -79,7 +79,7 @@ fn clear_rows(
 
 // Clears the column in each row but the one at the rank, which has 1 there.
 fn clear(width: u32, matrix: &mut [u8], columns: usize, rows: usize, column: usize, rank: usize)
-    requires { ⌜ Width width ⌝ }
+    requires { ⌜ Narrow width ⌝ }
     requires { ⌜ Grid (scalars width) (now matrix) rows columns × (column < columns) × (rank < rows) × (columns ≤ 256) ⌝ }
     ensures { λ _. ⌜ Cleared (scalars width) rows columns column rank rows
         (cell columns (now (matrix .entry))) (cell columns (now (matrix .exit))) ⌝ }
@@ -99,7 +99,7 @@ fn eliminate_column(
     column: usize,
     rank: usize,
 ) -> usize
-    requires { ⌜ Width width ⌝ }
+    requires { ⌜ Narrow width ⌝ }
     requires { ⌜ (rows * columns ≤ length (now matrix)) × (column < columns) × (columns ≤ 256)
         × Eliminated (scalars width) rows columns (cell columns (now matrix)) (cell columns (now matrix)) column rank ⌝ }
     ensures { λ s. ⌜ Eliminated (scalars width) rows columns
@@ -120,7 +120,7 @@ fn eliminate_column(
 
 // Reduces the columns of the unknowns, and returns the rank.
 pub fn eliminate(width: u32, matrix: &mut [u8], unknowns: usize, rows: usize) -> usize
-    requires { ⌜ Width width ⌝ }
+    requires { ⌜ Narrow width ⌝ }
     requires { ⌜ Grid (scalars width) (now matrix) rows (unknowns + 1) × (unknowns < 256) ⌝ }
     ensures { λ s. ⌜ Eliminated (scalars width) rows (unknowns + 1)
         (cell (unknowns + 1) (now (matrix .entry))) (cell (unknowns + 1) (now (matrix .exit))) unknowns s ⌝ }

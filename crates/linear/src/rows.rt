@@ -2,7 +2,7 @@
 ghost use mathlib.Core.Path.{_≡_};
 ghost use Prim.Native.Nat.{_+_, _≤_};
 ghost use lib.ListN.{length, getD, replicate};
-ghost use Rattle.field.specs.Mul.{Width};
+ghost use Rattle.field.specs.Mul.{Narrow};
 ghost use Rattle.linear.specs.Scalars.{scalars};
 ghost use Rattle.linear.specs.Row.{Agree, plus, times};
 ghost use Rattle.linear.specs.Buffer.{from, Overwritten};
@@ -21,7 +21,7 @@ pub fn copy_row(matrix: &[u8], b: usize, columns: usize, row: &mut [u8])
 
 // Adds f times a row to the row at a.
 pub fn add_multiple(width: u32, matrix: &mut [u8], columns: usize, a: usize, row: &[u8], f: u8)
-    requires { ⌜ Width width ⌝ }
+    requires { ⌜ Narrow width ⌝ }
     requires { ⌜ (a + columns ≤ length (now matrix)) × (columns ≤ length (now row)) ⌝ }
     ensures { λ _. ⌜ Overwritten (now (matrix .entry)) (now (matrix .exit)) a columns
         (plus (scalars width) (from (now (matrix .entry)) a) (times (scalars width) f (λ k. getD (now (row .entry)) k 0))) ⌝ }
@@ -37,7 +37,7 @@ pub fn add_multiple(width: u32, matrix: &mut [u8], columns: usize, a: usize, row
 
 // Multiplies the row at a by f.
 pub fn scale_row(width: u32, matrix: &mut [u8], columns: usize, a: usize, f: u8)
-    requires { ⌜ Width width ⌝ }
+    requires { ⌜ Narrow width ⌝ }
     requires { ⌜ a + columns ≤ length (now matrix) ⌝ }
     ensures { λ _. ⌜ Overwritten (now (matrix .entry)) (now (matrix .exit)) a columns
         (times (scalars width) f (from (now (matrix .entry)) a)) ⌝ }

@@ -2,7 +2,7 @@
 ghost use mathlib.Core.Path.{_≡_};
 ghost use Prim.Native.Nat.{_+_, _*_, _<_, _≤_};
 ghost use lib.ListN.{length, getD};
-ghost use Rattle.field.specs.Mul.{Width};
+ghost use Rattle.field.specs.Mul.{Narrow};
 ghost use Rattle.linear.specs.Scalars.{scalars};
 ghost use Rattle.linear.specs.Elimination.{Reducing, Reduced, FirstNonzero, ReadOff};
 ghost use Rattle.linear.specs.Buffer.{cell, Grid, Solved};
@@ -44,7 +44,7 @@ fn read_off(matrix: &[u8], unknowns: usize, rows: usize, rank: usize, out: &mut 
 // Solves the equations. Where there is a solution it writes the canonical one and returns true; else `out` is left as it is. The matrix is left
 // reduced.
 pub fn solve(width: u32, matrix: &mut [u8], unknowns: usize, rows: usize, out: &mut [u8]) -> bool
-    requires { ⌜ Width width ⌝ }
+    requires { ⌜ Narrow width ⌝ }
     requires { ⌜ Grid (scalars width) (now matrix) rows (unknowns + 1) × (unknowns < 256) × (length (now out) ≡ unknowns) ⌝ }
     ensures { λ _. ⌜ Reducing (scalars width) rows (unknowns + 1)
         (cell (unknowns + 1) (now (matrix .entry))) (cell (unknowns + 1) (now (matrix .exit))) unknowns ⌝ }

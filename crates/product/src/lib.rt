@@ -2,13 +2,15 @@
 ghost use mathlib.Core.Path.{_≡_};
 ghost use Prim.Native.Nat.{_+_, _<_, _≤_};
 ghost use lib.ListN.{length};
-ghost use Rattle.field.specs.Mul.{Width};
+ghost use Rattle.field.specs.Mul.{Width, Narrow};
 ghost use Rattle.steps.specs.Program.{for};
 ghost use Rattle.steps.specs.Tape.{elements};
 ghost use Rattle.steps.specs.Machine.{Ready, Went, ReadySteps, WentSteps};
 ghost use Rattle.product.specs.Product as spec;
 ghost use Rattle.product.specs.ByShare as byShare;
 use steps::Counts;
+
+pub mod bytes;
 
 // A sharing, with what the run has taken when it is made.
 pub struct Masked {
@@ -134,7 +136,7 @@ fn pairs(
     c: &mut [u8; 9],
     n: Counts,
 ) -> Counts
-    requires { ⌜ Width width ⌝ }
+    requires { ⌜ Narrow width ⌝ }
     requires { ⌜ (s ≤ 9) × (9 ≤ length (now a)) × (9 ≤ length (now b)) ⌝ }
     requires { ⌜ Ready (elements width (now random)) (now watch)
         (for 0 s (spec.row width s (now a) (now b)) (now c)) n (now values) ⌝ }
@@ -209,7 +211,7 @@ pub fn product(
     values: &mut [u8],
     n: Counts,
 ) -> Masked
-    requires { ⌜ Width width ⌝ }
+    requires { ⌜ Narrow width ⌝ }
     requires { ⌜ (s ≤ 9) × (9 ≤ length (now a)) × (9 ≤ length (now b)) ⌝ }
     requires { ⌜ Ready (elements width (now random)) (now watch)
         (spec.product width s (now a) (now b)) n (now values) ⌝ }

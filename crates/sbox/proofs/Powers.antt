@@ -12,7 +12,7 @@ use Rattle.field.proofs.Power.{pow-one, pow-add}
 use Rattle.field.proofs.Inverses.{field-of}
 use Rattle.field.proofs.Polynomial.{class-squares}
 use Rattle.decomposition.specs.Layout.{Known}
-use Rattle.decomposition.proofs.Sizes.{known-both, known-width}
+use Rattle.decomposition.proofs.Sizes.{known-both, known-width, known-narrow}
 use Rattle.steps.specs.Shape.{Shaped, shaped-return}
 use Rattle.steps.specs.Sharing.{Sharing}
 use Rattle.steps.proofs.Shape.{shaped-bind, shaped-map, shaped-weaken}
@@ -109,7 +109,7 @@ module _ {n : ℕ} (w : Known n) (s x : ℕ) (nine : s ≤ 9) (h : x < 2 ^ n) wh
   -- the powers of class c, from the first of them
   shaped-class : (c : ℕ) {a : List ℕ} → length (class n c) ≡ suc (n - 1) → IsPower n s x (getD (class n c) 0 0) a
       → Shaped (Each (IsPower n s x) (class n c)) (times (n - 1) (squareShape s)) (squares n s (n - 1) a)
-  shaped-class c l g = shaped-squares (n - 1) (class n c) l (λ i k. class-squares n (known-width n w) c i x h k) g
+  shaped-class c l g = shaped-squares (n - 1) (class n c) l (λ i k. class-squares n (known-narrow n w) c i x h k) g
 
   -- the product of x to the powers d and e
   shaped-power : (d e : ℕ) {a b : List ℕ} → IsPower n s x d a → IsPower n s x e b

@@ -61,16 +61,57 @@ pub const BLOCK_MASKS: [u8; 16] = [
 // lowest nibble of each share of the ciphertext. The numbers follow from docs/FORMATS.md.
 pub const WATCHED: [u32; 7] = [0, 16, 32, 60, 117149, 117165, 117181];
 
-// An example element in place of random element i: a plain pattern, so that nobody takes it for a random one.
-fn element(i: usize) -> u8 {
-    ((i % 16 * 7 + 3) % 16) as u8
+// A vector of AES-128: appendix C.1 of FIPS 197.
+pub const AES_KEY: [u8; 16] = [0, 1, 2, 3, 4, 5, 6, 7, 8, 9, 10, 11, 12, 13, 14, 15];
+
+pub const AES_BLOCK: [u8; 16] = [
+    0x00,
+    0x11,
+    0x22,
+    0x33,
+    0x44,
+    0x55,
+    0x66,
+    0x77,
+    0x88,
+    0x99,
+    0xaa,
+    0xbb,
+    0xcc,
+    0xdd,
+    0xee,
+    0xff,
+];
+
+pub const AES_PUBLISHED: [u8; 16] = [
+    0x69,
+    0xc4,
+    0xe0,
+    0xd8,
+    0x6a,
+    0x7b,
+    0x04,
+    0x30,
+    0xd8,
+    0xcd,
+    0xb7,
+    0x80,
+    0x70,
+    0xb4,
+    0xc5,
+    0x5a,
+];
+
+// An example element, up to `largest`, in place of random element i: a plain pattern, so that nobody takes it for a random one.
+fn element(largest: u8, i: usize) -> u8 {
+    ((i % 256 * 7 + 3) % 256) as u8 & largest
 }
 
-// Fills the bytes that stand for the random elements, as the library takes no randomness by itself.
-pub fn fill(out: &mut [u8]) {
+// Fills the bytes that stand for random elements up to `largest`, 15 or 255, as the library takes no randomness by itself.
+pub fn fill(largest: u8, out: &mut [u8]) {
     let mut i = 0;
     while i < out.len() {
-        out[i] = element(i);
+        out[i] = element(largest, i);
         i += 1;
     }
 }

@@ -1,4 +1,5 @@
-// The worked example: one block sealed in three shares, printed as the first page of a manual.
+// The worked example: a block sealed in three shares, printed as the first page of a manual.
+mod aes_sealing;
 mod example;
 mod fitting;
 mod refusing;
@@ -25,7 +26,8 @@ fn main() {
     open_page();
     fitting::part(&mut record);
     sharing::part(&mut key, &mut block);
-    example::fill(&mut random);
+    example::fill(15, &mut random);
     sealing::part(&record, &key, &block, &random);
     watching::part(&record, &key, &block, &random);
+    aes_sealing::part();
 }

@@ -1,4 +1,5 @@
 // Part 3: the ciphertext in shares, and joined.
+ghost use Prim.Native.Nat.{_<_};
 use crate::example;
 use crate::refusing::refused;
 use crate::text;
@@ -8,7 +9,7 @@ use steps::JoinAnswer;
 use steps::join;
 
 // Prints what the call took, which an auditor can hold to the figures in docs/FORMATS.md.
-fn show_counts(products: usize, random: usize, steps: u32) {
+pub fn show_counts(products: usize, random: usize, steps: u32) {
     text::print_count(b"    masked products  ", products as u64);
     text::print_count(b"    random bytes     ", random as u64);
     text::print_count(b"    steps            ", steps as u64);
@@ -64,6 +65,15 @@ fn show_joined(shares: &[u8], out: &mut [u8], published: &[u8]) {
     }
 }
 
+// Prints the shares of a ciphertext of n bytes and their sum.
+pub fn show_ciphertext(n: usize, shares: &[u8], sum: &mut [u8], published: &[u8])
+    requires { ⌜ 0 < n ⌝ }
+{
+    text::print(b"\n");
+    text::print_shares(n, shares);
+    show_joined(shares, sum, published);
+}
+
 // Seals, and prints the shares of the ciphertext and their sum.
 fn show_sealed(
     record: &[u8],
@@ -75,9 +85,7 @@ fn show_sealed(
     published: &[u8],
 ) {
     if sealed(record, key, shares, random, &mut *out) {
-        text::print(b"\n");
-        text::print_shares(8, &*out);
-        show_joined(out, sum, published);
+        show_ciphertext(8, out, sum, published);
     }
 }
 

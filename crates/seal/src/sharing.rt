@@ -1,4 +1,5 @@
 // Part 2: the shares of the key and of the block.
+ghost use Prim.Native.Nat.{_<_};
 use crate::example;
 use crate::refusing::refused;
 use crate::text;
@@ -17,24 +18,28 @@ fn is_split(value: &[u8], masks: &[u8], shares: &mut [u8]) -> bool {
     }
 }
 
+// Splits a value of n bytes and prints it and its shares.
+pub fn show_split(label: &[u8], n: usize, value: &[u8], masks: &[u8], shares: &mut [u8])
+    requires { ⌜ 0 < n ⌝ }
+{
+    text::print_row(label, value);
+    if is_split(value, masks, &mut *shares) {
+        text::print_shares(n, shares);
+    }
+}
+
 // Splits the key and prints its shares.
 fn split_key(shares: &mut [u8]) {
     let key = example::KEY;
     let masks = example::KEY_MASKS;
-    text::print_row(b"    key     ", &key);
-    if is_split(&key, &masks, &mut *shares) {
-        text::print_shares(10, shares);
-    }
+    show_split(b"    key     ", 10, &key, &masks, shares);
 }
 
 // Splits the block and prints its shares.
 fn split_block(shares: &mut [u8]) {
     let block = example::BLOCK;
     let masks = example::BLOCK_MASKS;
-    text::print_row(b"\n    block   ", &block);
-    if is_split(&block, &masks, &mut *shares) {
-        text::print_shares(8, shares);
-    }
+    show_split(b"\n    block   ", 8, &block, &masks, shares);
 }
 
 // Shows how secrets come to the library: in shares, whose sum is the secret.

@@ -7,6 +7,8 @@ mod numbers;
 mod operations;
 mod report;
 mod tally;
+mod try_aes_block;
+mod try_aes_block_watch;
 mod try_block;
 mod try_block_watch;
 mod try_check;
@@ -50,6 +52,13 @@ fn main() {
     agree = agree & try_file(b"sbox_watch", b"sbox_watch.cases", Operation::SboxWatch);
     agree = agree & try_file(b"block", b"block.cases", Operation::Block);
     agree = agree & try_file(b"block_watch", b"block_watch.cases", Operation::BlockWatch);
+    agree = agree & try_file(b"aes_block", b"aes_block.cases", Operation::AesBlock);
+    agree = agree
+        & try_file(
+            b"aes_block_watch",
+            b"aes_block_watch.cases",
+            Operation::AesBlockWatch,
+        );
     agree = agree & try_file(b"split", b"split.cases", Operation::Split);
     agree = agree & try_file(b"join", b"join.cases", Operation::Join);
     report::report_all(agree);

@@ -1,5 +1,7 @@
 // The operations that have cases. An operation is added by a module that tries its cases, an arm here and a line in `main`.
 use crate::answer::Trial;
+use crate::try_aes_block::try_aes_block;
+use crate::try_aes_block_watch::try_aes_block_watch;
 use crate::try_block::try_block;
 use crate::try_block_watch::try_block_watch;
 use crate::try_check::try_check;
@@ -20,6 +22,8 @@ pub enum Operation {
     SboxWatch,
     Block,
     BlockWatch,
+    AesBlock,
+    AesBlockWatch,
     Split,
     Join,
 }
@@ -35,6 +39,8 @@ pub fn try_case(operation: Operation, file: &[u8], at: usize) -> Trial {
         Operation::SboxWatch => try_sbox_watch(file, at),
         Operation::Block => try_block(file, at),
         Operation::BlockWatch => try_block_watch(file, at),
+        Operation::AesBlock => try_aes_block(file, at),
+        Operation::AesBlockWatch => try_aes_block_watch(file, at),
         Operation::Split => try_split(file, at),
         Operation::Join => try_join(file, at),
     }

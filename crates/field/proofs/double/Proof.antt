@@ -21,22 +21,36 @@ mul-result-3 c = search needs
 mul-result-4 : tie.Need-mul-result-4
 mul-result-4 c = search needs
 
+mul-result-5 : tie.Need-mul-result-5
+mul-result-5 c = search needs
+
+mul-result-6 : tie.Need-mul-result-6
+mul-result-6 c = search needs
+
 returns : tie.Need-returns
 unfolding double reduction _⊕_
 returns c =
     let a = c .before .args .a in
-    let low : 2 * a % 16 ≡ a % 8 * 2 = omega arith in
-    let top : 2 * a / 16 ≡ a / 8 = omega arith in
+    let low : 2 * a % 256 ≡ a % 128 * 2 = omega arith in
+    let top : 2 * a / 256 ≡ a / 128 = omega arith in
     rw (c .if1 .taken, low, top)
 
 returns-2 : tie.Need-returns-2
 unfolding double reduction _⊕_
 returns-2 c =
-    let a = c .before .args .a in
+    let a = c .before .before .args .a in
+    let low : 2 * a % 16 ≡ a % 8 * 2 = omega arith in
+    let top : 2 * a / 16 ≡ a / 8 = omega arith in
+    rw (c .if2 .taken, low, top)
+
+returns-3 : tie.Need-returns-3
+unfolding double reduction _⊕_
+returns-3 c =
+    let a = c .before .before .args .a in
     let low : 2 * a % 64 ≡ a % 32 * 2 = omega arith in
     let top : 2 * a / 64 ≡ a / 32 = omega arith in
-    rw (width-6 _ (c .before .pre) (c .if1 .left), low, top)
+    rw (width-6 _ (c .before .before .pre) (c .before .if1 .left) (c .if2 .left), low, top)
 
 pub double-spec : {M : Type 1} → statement M
 double-spec =
-    tie.close (tie.spec mul-result mul-result-2 mul-result-3 mul-result-4 returns returns-2)
+    tie.close (tie.spec mul-result mul-result-2 mul-result-3 mul-result-4 mul-result-5 mul-result-6 returns returns-2 returns-3)

@@ -6,7 +6,7 @@ use native.Mathlib.Omega.{arith}
 use lib.ListN.{length}
 use Rattle.field.specs.Polynomial.{classes, exponents}
 use Rattle.field.proofs.Polynomial.{length-exponents-4, length-exponents-6}
-use Rattle.field.proofs.Turns.{width-6}
+use Rattle.field.proofs.Turns.{narrow-6}
 use Rattle.field.proofs.exponent.Statement.{statement}
 use Rattle.field.proofs.exponent.Tie as tie
 
@@ -15,7 +15,7 @@ array-read-result c = omega (arith, c .before .pre .1, ap (λ (n : ℕ). length 
 
 array-read-result-2 : tie.Need-array-read-result-2
 array-read-result-2 c =
-    omega (arith, c .before .pre .1, ap (λ (n : ℕ). length (exponents n)) (width-6 _ (c .before .pre .0) (c .if1 .left)) ∙ length-exponents-6)
+    omega (arith, c .before .pre .1, ap (λ (n : ℕ). length (exponents n)) (narrow-6 _ (c .before .pre .0) (c .if1 .left)) ∙ length-exponents-6)
 
 returns : tie.Need-returns
 unfolding exponents classes flatten
@@ -23,7 +23,7 @@ returns c = rw (c .if1 .taken) refl
 
 returns-2 : tie.Need-returns-2
 unfolding exponents classes flatten
-returns-2 c = rw (width-6 _ (c .before .pre .0) (c .if1 .left)) refl
+returns-2 c = rw (narrow-6 _ (c .before .pre .0) (c .if1 .left)) refl
 
 pub exponent-spec : {M : Type 1} → statement M
 exponent-spec = tie.close (tie.spec array-read-result array-read-result-2 returns returns-2)

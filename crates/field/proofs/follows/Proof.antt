@@ -7,7 +7,7 @@ use borrow.Author.Needs.{needs}
 use borrow.Author.Tests.{lt-ltb, le-ltb, eq-eqb, ne-eqb}
 use lib.Dec.{eqb}
 use Rattle.field.specs.Polynomial.{follows}
-use Rattle.field.proofs.Turns.{width-6}
+use Rattle.field.proofs.Turns.{narrow-6}
 use Rattle.field.proofs.follows.Statement.{statement}
 use Rattle.field.proofs.follows.Tie as tie
 
@@ -50,7 +50,7 @@ add-result-2 c = search needs
 returns-4 : tie.Need-returns-4
 returns-4 c =
     let start = c .before .before .before in
-    let e : 2 ^ start .args .width - 1 ≡ 63 = rw (width-6 _ (start .pre) (c .if3 .left)) refl in
+    let e : 2 ^ start .args .width - 1 ≡ 63 = rw (narrow-6 _ (start .pre) (c .if3 .left)) refl in
     wrapped _ _ _ 63 (c .before .before .if1 .left) (c .before .if2 .left) e
 
 pub follows-spec : {M : Type 1} → statement M

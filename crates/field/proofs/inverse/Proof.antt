@@ -4,7 +4,7 @@ use Prim.Native.Nat.{_+_, _-_, _≤_}
 use native.Mathlib.Omega.{arith}
 use Rattle.field.specs.Power.{square, inverse}
 use Rattle.field.proofs.Inverses.{field-of, chain, inverse-chain}
-use Rattle.field.proofs.Turns.{next-chain}
+use Rattle.field.proofs.Turns.{narrow-width, next-chain}
 use Rattle.field.proofs.inverse.Statement.{statement}
 use Rattle.field.proofs.inverse.Tie as tie
 
@@ -22,7 +22,7 @@ unfolding square
 loop-holds c =
     let start = c .before in
     let n = start .args .width in
-    let ring = field-of n (start .pre .0) .ring in
+    let ring = field-of n (narrow-width n (start .pre .0)) .ring in
     (ring .wide, ap₂ (chain n (n - 2)) (c .mul .ensures) (c .mul .ensures) ∙ sym (inverse-chain ring (start .args .a) (start .pre .1)))
 
 mul-requires-2 : tie.Need-mul-requires-2 Inv-loop μ-loop

@@ -3,6 +3,7 @@ use borrow.Author.Needs.{needs}
 use Rattle.steps.proofs.Machine.{then-runs, mark-runs}
 use Rattle.steps.proofs.Parts.{ready-first, ready-next, ready-mark, ready-products}
 use Rattle.steps.proofs.StepsAlone.{ready-steps, went-steps}
+use Rattle.field.proofs.Turns.{narrow-width}
 use Rattle.product.specs.Product as spec
 use Rattle.product.proofs.Runs.{starts-alone}
 use Rattle.product.proofs.product.Statement.{statement}
@@ -15,7 +16,7 @@ add-begun c = let h = ready-products _ (ready-mark _ (c .before .before .before 
 starts-requires : tie.Need-starts-requires
 unfolding spec.product
 starts-requires c κs =
-    (search needs, (search needs, ready-steps (starts-alone _ _ _ _ _) (ready-first _ _ (ready-mark _ (c .before .before .before .before .before .before .before .before .pre .1 .1)))))
+    (narrow-width _ (search needs), (search needs, ready-steps (starts-alone _ _ _ _ _) (ready-first _ _ (ready-mark _ (c .before .before .before .before .before .before .before .before .pre .1 .1)))))
 
 pairs-requires : tie.Need-pairs-requires
 unfolding spec.product

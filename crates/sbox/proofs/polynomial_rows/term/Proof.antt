@@ -1,6 +1,6 @@
 -- `term` meets its contract: its steps are those of the definition.
 use borrow.Author.Needs.{needs}
-use Rattle.decomposition.proofs.Sizes.{known-width}
+use Rattle.decomposition.proofs.Sizes.{known-narrow}
 use Rattle.sbox.specs.Table as table
 use Rattle.sbox.proofs.TableRuns.{term-runs, term-room}
 use Rattle.sbox.proofs.polynomial_rows.term.Statement.{statement}
@@ -25,7 +25,7 @@ element-copy-out-mul : tie.Need-element-copy-out-mul
 element-copy-out-mul c = search needs
 
 mul-requires : tie.Need-mul-requires
-mul-requires c κs = search (needs, known-width)
+mul-requires c κs = search (needs, known-narrow)
 
 slice-aggregate-record-all : tie.Need-slice-aggregate-record-all
 slice-aggregate-record-all c = search needs

@@ -1,6 +1,6 @@
 -- `square_share` meets its contract: its step is that of the definition.
 use borrow.Author.Needs.{needs}
-use Rattle.decomposition.proofs.Sizes.{known-width}
+use Rattle.decomposition.proofs.Sizes.{known-narrow}
 use Rattle.sbox.specs.Table as table
 use Rattle.sbox.proofs.TableRuns.{square-runs, square-room}
 use Rattle.sbox.proofs.power_rows.square_share.Statement.{statement}
@@ -16,7 +16,7 @@ element-copy-out-x : tie.Need-element-copy-out-x
 element-copy-out-x c = search needs
 
 mul-requires : tie.Need-mul-requires
-mul-requires c κs = search (needs, known-width)
+mul-requires c κs = search (needs, known-narrow)
 
 record-requires : tie.Need-record-requires
 record-requires c κs = let room = square-room _ _ _ _ _ (c .before .before .before .before .before .pre .1 .1) in search needs

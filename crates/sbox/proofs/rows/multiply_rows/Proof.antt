@@ -1,6 +1,6 @@
 -- `multiply_rows` meets its contract: the product of two rows, put into a third.
 use borrow.Author.Needs.{needs}
-use Rattle.decomposition.proofs.Sizes.{known-width}
+use Rattle.decomposition.proofs.Sizes.{known-narrow}
 use Rattle.steps.proofs.Parts.{ready-first}
 use Rattle.sbox.specs.TableSteps.{multiplyRows}
 use Rattle.sbox.proofs.TableRuns.{multiply-runs, row-part, row-long}
@@ -37,7 +37,7 @@ product-requires c κs =
     let a = c .before .before .before .before .before .before .before .before .args in
     let x = row-part (a .t .now) (a .x) in
     let y = row-part (a .t .now) (a .y) in
-    (search (needs, known-width), ((search needs, search (needs, row-long), search (needs, row-long)), rw (x, y) (ready-first _ _ (c .before .before .before .before .before .before .before .before .pre .1 .1))))
+    (search (needs, known-narrow), ((search needs, search (needs, row-long), search (needs, row-long)), rw (x, y) (ready-first _ _ (c .before .before .before .before .before .before .before .before .pre .1 .1))))
 
 put-requires : tie.Need-put-requires
 put-requires c κs = search needs

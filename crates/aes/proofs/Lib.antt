@@ -1,0 +1,14 @@
+pub mod Affine
+pub mod Sbox
+pub mod Fills
+pub mod Bounds
+pub mod Places
+pub mod Runs
+pub mod Theorems
+pub mod Calls
+pub mod Output
+pub mod Answers
+pub mod Watched
+pub mod Settles
+pub mod Chain
+pub mod Tapes

@@ -1,0 +1,30 @@
+-- TO COUNT TAPES IS TO COUNT CALLS. The tapes that `choices` counts are those of the choices, one to one (crates/steps/proofs/Chosen.antt), and each
+-- with a key and a block settles one call (crates/steps/proofs/Settled.antt). Watch AES block accepts it, with any list of up to 64 step numbers, and
+-- writes the values that are counted: those of the experiment on this tape.
+use mathlib.Core.Path.{_≡_, sym, ap, _∙_}
+use mathlib.Core.List.{List, [], _∷_}
+use Prim.Native.Nat.{ℕ, _≤_, _<_}
+use lib.ListN.{length, getD}
+use Rattle.refusal.specs.Outcome.{done}
+use Rattle.steps.specs.Program.{trace}
+use Rattle.steps.specs.Watch.{watched}
+use Rattle.steps.specs.Settled.{Chosen, Settles, Settled}
+use Rattle.rijndael.specs.Experiment.{Plain}
+use Rattle.aes.specs.Figures.{figures, blockSteps}
+use Rattle.aes.specs.Experiment.{experiment, blockInputs}
+use Rattle.aes.specs.Operations.{watchOutcome, watchOutput}
+use Rattle.aes.proofs.Watched.{watch-shows}
+use Rattle.aes.proofs.Settles.{watch-accepted}
+
+pub tape-watched : (s : ℕ) → 0 < s → s ≤ 9 → (x : Plain) {tape key block : List ℕ}
+    → (c : Chosen (blockInputs s) tape) → Settles (blockInputs s .secrets) (x .key ∷ x .block ∷ []) (c .masks) (key ∷ block ∷ [])
+    → (list : List ℕ) → length list ≤ 64 → ((k : ℕ) → getD list k 0 < blockSteps s)
+    → (watchOutcome s key block (c .random) list (length list) ≡ done (figures s))
+    × (watchOutput s key block (c .random) list ≡ watched list (trace (experiment s x) tape))
+tape-watched s some nine x {tape} {key} {block} c h list few below =
+    let settled : Settled (blockInputs s) (key ∷ block ∷ []) (c .random) =
+    record { values = x .key ∷ x .block ∷ []; masks = c .masks; choice = c .choice; settles = h } in
+    let shows = watch-shows s some nine x (c .random) list (c .choice .masks-are) h in (
+      watch-accepted s some nine key block (c .random) settled list few below,
+      shows ∙ ap (λ (t : List ℕ). watched list (trace (experiment s x) t)) (sym (c .tape-is)),
+    )

@@ -1,0 +1,54 @@
+-- `layers::new_word` meets its contract: a loop over the places of the shares.
+use Prim.Native.Nat.{_-_}
+use borrow.Author.Needs.{needs}
+use Rattle.rijndael.specs.Strings.{placeOf, makeShares}
+use Rattle.rijndael.specs.Rijndael.{wordByte}
+use Rattle.aes.proofs.Fills.{Filling, filling, filling-on, filled}
+use Rattle.aes.proofs.layers.new_word.Statement.{statement}
+use Rattle.aes.proofs.layers.new_word.Tie as tie
+
+abbrev Inv-loop : tie.InvT-loop
+Inv-loop s i w temp c₀ count p₀ c p = Filling c₀ (placeOf 176 4 4 (wordByte i) w temp) count p c
+
+abbrev μ-loop : tie.MeasureT-loop
+μ-loop s i w temp c₀ count p₀ c p = count - p
+
+mul-count : tie.Need-mul-count Inv-loop μ-loop
+mul-count c = search needs
+
+loop-holds : tie.Need-loop-holds Inv-loop μ-loop
+loop-holds c = filling _ _ _
+
+word-place-requires : tie.Need-word-place-requires Inv-loop μ-loop
+word-place-requires c κs = search needs
+
+array-write-c : tie.Need-array-write-c Inv-loop μ-loop
+array-write-c c = search needs
+
+add-p : tie.Need-add-p Inv-loop μ-loop
+add-p c = search needs
+
+loop-less : tie.Need-loop-less Inv-loop μ-loop
+loop-less c = search needs
+
+loop-again : tie.Need-loop-again Inv-loop μ-loop
+loop-again c = filling-on (c .before .before .loop .inv) (c .before .loop-test .taken) (search needs) (c .word-place .ensures)
+
+returns : tie.Need-returns Inv-loop μ-loop
+unfolding makeShares
+returns c = filled (c .before .loop .inv) (c .loop-test .left)
+
+pub new-word-spec : {M : Type 1} → statement M
+new-word-spec =
+    tie.close
+    (tie.spec
+    Inv-loop
+    μ-loop
+    mul-count
+    loop-holds
+    word-place-requires
+    array-write-c
+    add-p
+    loop-less
+    loop-again
+    returns)

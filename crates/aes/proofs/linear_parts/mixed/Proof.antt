@@ -1,0 +1,33 @@
+-- `linear_parts::mixed` meets its contract.
+use Rattle.rijndael.specs.Masked.{maskedMixColumns}
+use Rattle.aes.proofs.Runs.{recorded-ready, recorded-went}
+use borrow.Author.Needs.{needs}
+use Rattle.aes.proofs.linear_parts.mixed.Statement.{statement}
+use Rattle.aes.proofs.linear_parts.mixed.Tie as tie
+
+mix-columns-requires : tie.Need-mix-columns-requires
+mix-columns-requires c κs = search needs
+
+slice-aggregate-record-string : tie.Need-slice-aggregate-record-string
+slice-aggregate-record-string c = search needs
+
+record-string-requires : tie.Need-record-string-requires
+unfolding maskedMixColumns
+record-string-requires c κs = (search needs, recorded-ready 16 _ _ _ (c .before .before .before .before .before .pre .1) (c .before .before .mix-columns .ensures))
+
+same-length : tie.Need-same-length
+same-length c = search needs
+
+returns : tie.Need-returns
+unfolding maskedMixColumns
+returns c = recorded-went 16 _ _ _ (c .before .before .record-string .ensures) (c .before .before .before .before .before .mix-columns .ensures)
+
+pub mixed-spec : {M : Type 1} → statement M
+mixed-spec =
+    tie.close
+    (tie.spec
+    mix-columns-requires
+    slice-aggregate-record-string
+    record-string-requires
+    same-length
+    returns)

@@ -1,0 +1,7 @@
+pub mod Sbox
+pub mod Rounds
+pub mod Figures
+pub mod Experiment
+pub mod Operations
+pub mod Alike
+pub mod Chain

@@ -1,0 +1,10 @@
+pub mod Strings
+pub mod Layers
+pub mod Recording
+pub mod OneByte
+pub mod Loaded
+pub mod Joined
+pub mod Counts
+pub mod Coupled
+pub mod Secrecy
+pub mod Vectors

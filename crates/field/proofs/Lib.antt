@@ -1,9 +1,11 @@
 pub mod Bilinear
 pub mod Ring
+pub mod Loop
 pub mod Remainder
 pub mod Power
 pub mod Tests
 pub mod Inverses
 pub mod Polynomial
 pub mod Laws
+pub mod Examples
 pub mod Turns

@@ -10,6 +10,7 @@ use Rattle.xor.proofs.Xor.{⊕-zero, zero-⊕}
 use Rattle.xor.proofs.Sum.{additive-below}
 use Rattle.xor.proofs.Basis.{agree}
 use Rattle.field.specs.Mul.{reduction, double, doubleAndAdd, mul, Ring}
+use Rattle.field.specs.Loop.{doubled}
 use Rattle.field.proofs.Bilinear.{double-add, double-lt, doubleAndAdd-double, doubleAndAdd-zero, mul-lt, mul-⊕, ⊕-mul}
 
 pub ring-4 : Ring 4
@@ -23,11 +24,6 @@ ring-6 = record { wide = lit< tt; reduces = lit< tt }
 pub ring-8 : Ring 8
 unfolding reduction
 ring-8 = record { wide = lit< tt; reduces = lit< tt }
-
--- a doubled k times
-unfoldable pub doubled : ℕ → ℕ → ℕ → ℕ
-doubled n zero a = a
-doubled n (suc k) a = doubled n k (double n a)
 
 pub doubled-double : (n k a : ℕ) → doubled n k (double n a) ≡ double n (doubled n k a)
 unfolding doubled

@@ -1,4 +1,5 @@
 pub mod Mul
+pub mod Loop
 pub mod Power
 pub mod Polynomial
 pub mod Laws

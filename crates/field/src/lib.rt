@@ -64,14 +64,15 @@ pub fn follows(width: u32, e: u8, next: u8) -> bool
     twice == next as u32 + 63
 }
 
-// y times a, for every byte a: the bits below the top one move up, and the top one is reduced. Width 8 is tested first: where the compiler knows that
-// the width is 4 or 6, one test is left.
+// y times a, for every byte a: the bits below the top one move up, and the top one is reduced. Width 8 is tested first:
+// where the compiler knows that the width is 4 or 6, one test is left.
 pub fn double(width: u32, a: u8) -> u8
     requires { ⌜ Width width ⌝ }
     ensures { λ r. ⌜ r ≡ spec.double width a ⌝ }
 {
     if width == 8 {
-        (a % 128 * 2) ^ (a / 128 % 2 * 27)
+        // FIPS 197's xtime (4.2.1): a shift to the left, and {1b} added if bit 7 was set, which is a factor 0 or 1
+        (a % 128 * 2) ^ (a / 128 % 2 * 0x1b)
     } else if width == 4 {
         (a % 8 * 2) ^ (a / 8 % 2 * 3)
     } else {
@@ -79,18 +80,24 @@ pub fn double(width: u32, a: u8) -> u8
     }
 }
 
-// The product by double and add, the lowest bit of b first: for a caller that tests the width outside its own loops.
+// The product of a and b as FIPS 197 tells it (4.2, 4.2.1): a is doubled again and again, and added for each set bit
+// of b, lowest bit first. After each bit the sum is a times the bits read so far: the loop's invariant, `AfterBits`
+// of specs/Loop.antt. For a caller that tests the width outside its own loops.
 pub fn double_and_add(width: u32, a: u8, b: u8) -> u8
     requires { ⌜ Width width ⌝ }
     ensures { λ r. ⌜ r ≡ spec.mul width a b ⌝ }
 {
     let mut sum: u8 = 0;
-    let mut x = a;
+    let mut term = a;
     let mut rest = b;
     let mut k: u32 = 0;
     while k < width {
-        sum = sum ^ (x * (rest % 2));
-        x = double(width, x);
+        // read bit k of b: is y ^ k a term of b? The standard splits its second factor into such terms (4.2.1)
+        let bit = rest % 2;
+        // add, if the bit is set, y ^ k times a, an intermediate result (4.2.1): the bit is a factor 0 or 1
+        sum = sum ^ (term * bit);
+        // double, by xtime (4.2.1): from y ^ k times a to y ^ (k + 1) times a
+        term = double(width, term);
         rest = rest / 2;
         k += 1;
     }

@@ -1,5 +1,6 @@
-// The C interface of Lemonludo: masked S-boxes and masked PRESENT-80 over decompositions, and masked AES-128. For x86-64 Linux, with libcapi.a
-// (interface/README.md says how to build and link it; docs/FORMATS.md has the layout of records and sharings and the numbering of steps).
+// The C interface of Lemonludo: masked S-boxes and masked PRESENT-80 over decompositions, and masked AES-128. For x86-64 Linux, with
+// libcapi.a (interface/README.md says how to build and link it; docs/FORMATS.md has the layout of records and sharings and the numbering
+// of steps).
 //
 // Slices. A slice is a pointer and the number of its elements. What is lent for writing (not const) must overlap nothing else that is
 // passed in the same call; slices that are only read may overlap each other. An empty slice may be NULL: nothing is read or written
@@ -92,8 +93,8 @@ void ll_block_watch(const uint8_t *record, size_t record_len, uint32_t s, const 
     const uint8_t *block_shares, size_t block_shares_len, const uint8_t *random, size_t random_len,
     const uint32_t *list, size_t list_len, uint8_t *values, size_t values_len, uint64_t answer[4]);
 
-// AES block: masked AES-128 (FIPS 197) of one block. Key shares, block shares and out have 16s bytes, random 400s(s-1), every byte an element.
-// Hands back products, random bytes and steps.
+// AES block: masked AES-128 (FIPS 197) of one block. Key shares, block shares and out have 16s bytes, random 400s(s-1), each byte an
+// element. Hands back products, random bytes and steps.
 // Refuses: 7 s not 1 to 9; 2 any length wrong.
 void ll_aes_block(uint32_t s, const uint8_t *key_shares, size_t key_shares_len,
     const uint8_t *block_shares, size_t block_shares_len, const uint8_t *random, size_t random_len,

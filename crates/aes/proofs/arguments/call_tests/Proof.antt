@@ -7,12 +7,6 @@ use borrow.Author.Needs.{needs}
 use Rattle.aes.proofs.arguments.call_tests.Statement.{statement}
 use Rattle.aes.proofs.arguments.call_tests.Tie as tie
 
-one-to-requires : tie.Need-one-to-requires
-one-to-requires c κs = search needs
-
-refuse-requires : tie.Need-refuse-requires
-refuse-requires c κs = search needs
-
 returns : tie.Need-returns
 unfolding callTests
 returns c =
@@ -26,9 +20,6 @@ lengths-fit-requires c κs =
     let at-if1 = c in
     let at-one-to = at-if1 .before in
     one-to-range _ _ (test-passes (at-one-to .one-to .ensures) (at-if1 .if1 .left))
-
-refuse-requires-2 : tie.Need-refuse-requires-2
-refuse-requires-2 c κs = search needs
 
 returns-2 : tie.Need-returns-2
 unfolding callTests
@@ -60,10 +51,10 @@ pub call-tests-spec : {M : Type 1} → statement M
 call-tests-spec =
     tie.close
     (tie.spec
-    one-to-requires
-    refuse-requires
+    (λ c κs. search needs)
+    (λ c κs. search needs)
     returns
     lengths-fit-requires
-    refuse-requires-2
+    (λ c κs. search needs)
     returns-2
     returns-3)

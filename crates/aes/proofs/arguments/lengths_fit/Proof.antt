@@ -5,25 +5,13 @@ use borrow.Author.Needs.{needs}
 use Rattle.aes.proofs.arguments.lengths_fit.Statement.{statement}
 use Rattle.aes.proofs.arguments.lengths_fit.Tie as tie
 
-mul-if1 : tie.Need-mul-if1
-mul-if1 c = search needs
-
 returns : tie.Need-returns
 unfolding blockLengths
 returns c = rw (ne-eqb _ _ (c .if1 .taken))
 
-mul-if2 : tie.Need-mul-if2
-mul-if2 c = search needs
-
 returns-2 : tie.Need-returns-2
 unfolding blockLengths
 returns-2 c = rw (eq-eqb _ _ (c .before .if1 .left), ne-eqb _ _ (c .if2 .taken))
-
-draw-count-requires : tie.Need-draw-count-requires
-draw-count-requires c κs = search needs
-
-bytes-for-requires : tie.Need-bytes-for-requires
-bytes-for-requires c κs = search needs
 
 returns-3 : tie.Need-returns-3
 unfolding blockLengths
@@ -51,11 +39,11 @@ pub lengths-fit-spec : {M : Type 1} → statement M
 lengths-fit-spec =
     tie.close
     (tie.spec
-    mul-if1
+    (λ c. search needs)
     returns
-    mul-if2
+    (λ c. search needs)
     returns-2
-    draw-count-requires
-    bytes-for-requires
+    (λ c κs. search needs)
+    (λ c κs. search needs)
     returns-3
     returns-4)

@@ -14,25 +14,10 @@ use borrow.Author.Needs.{needs}
 use Rattle.aes.proofs.enciphering.block.Statement.{statement}
 use Rattle.aes.proofs.enciphering.block.Tie as tie
 
-mul-fits : tie.Need-mul-fits
-mul-fits c = search needs
-
 -- where the tests are passed
 tested : (c : tie.After-enum-told) → let a = c .before .before .before .before .before .before .before .args in
     callTests (a .s) (length (a .key .now)) (length (a .block .now)) (length (a .random .now)) (eqb (length (a .out .now)) (16 * a .s)) ≡ done []
 tested c = sym (c .before .before .call-tests .ensures) ∙ ap testedReport (c .enum-told .given .1)
-
-call-tests-requires : tie.Need-call-tests-requires
-call-tests-requires c κs = search needs
-
-enum-known-tested : tie.Need-enum-known-tested
-enum-known-tested c = search needs
-
-refuse-requires : tie.Need-refuse-requires
-refuse-requires c κs = search needs
-
-enum-told : tie.Need-enum-told
-enum-told c = search needs
 
 encipher-requires : tie.Need-encipher-requires
 encipher-requires c κs =
@@ -49,9 +34,6 @@ returns c =
     let e = sym (at-call-tests .call-tests .ensures) ∙ ap testedReport (at-tested .tested .given .1) in
     refuses (at-refuse .refuse .ensures) (rw e)
 
-same-length : tie.Need-same-length
-same-length c = search needs
-
 returns-2 : tie.Need-returns-2
 unfolding blockOutcome blockCall callOutcome
 returns-2 c =
@@ -63,12 +45,12 @@ pub block-spec : {M : Type 1} → statement M
 block-spec =
     tie.close
     (tie.spec
-    mul-fits
-    call-tests-requires
-    enum-known-tested
-    refuse-requires
-    enum-told
+    (λ c. search needs)
+    (λ c κs. search needs)
+    (λ c. search needs)
+    (λ c κs. search needs)
+    (λ c. search needs)
     encipher-requires
     returns
-    same-length
+    (λ c. search needs)
     returns-2)

@@ -10,15 +10,8 @@ use Rattle.steps.proofs.Machine.{went-whole}
 use Rattle.steps.proofs.Tape.{elements-bytes}
 use Rattle.rijndael.specs.Strings.{byteAt}
 use Rattle.aes.proofs.Calls.{call-ready, call-counts, call-output}
-use borrow.Author.Needs.{needs}
 use Rattle.aes.proofs.enciphering.encipher.Statement.{statement}
 use Rattle.aes.proofs.enciphering.encipher.Tie as tie
-
-slice-aggregate-encrypt : tie.Need-slice-aggregate-encrypt
-slice-aggregate-encrypt c = search needs
-
-slice-aggregate-encrypt-2 : tie.Need-slice-aggregate-encrypt-2
-slice-aggregate-encrypt-2 c = search needs
 
 encrypt-requires : tie.Need-encrypt-requires
 encrypt-requires c κs =
@@ -37,12 +30,6 @@ store-requires c κs =
     let start = c .before .before .before .before .before .before .before .before .before .before .before in
     omega (arith, start .pre .1, start .pre .0 .nine)
 
-bytes-for-requires : tie.Need-bytes-for-requires
-bytes-for-requires c κs = search needs
-
-same-length : tie.Need-same-length
-same-length c = search needs
-
 returns : tie.Need-returns
 returns c =
     let at-bytes-for = c in
@@ -58,10 +45,10 @@ pub encipher-spec : {M : Type 1} → statement M
 encipher-spec =
     tie.close
     (tie.spec
-    slice-aggregate-encrypt
-    slice-aggregate-encrypt-2
+    (λ c. search needs)
+    (λ c. search needs)
     encrypt-requires
     store-requires
-    bytes-for-requires
-    same-length
+    (λ c κs. search needs)
+    (λ c. search needs)
     returns)

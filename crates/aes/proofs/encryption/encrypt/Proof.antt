@@ -4,18 +4,8 @@ use borrow.Author.Needs.{needs}
 use Rattle.steps.proofs.Parts.{ready-first, ready-next, went-then}
 use Rattle.rijndael.specs.Masked.{maskedEncrypt}
 use Rattle.aes.specs.Operations.{callProgram}
-use borrow.Author.Needs.{needs}
 use Rattle.aes.proofs.encryption.encrypt.Statement.{statement}
 use Rattle.aes.proofs.encryption.encrypt.Tie as tie
-
-load-requires : tie.Need-load-requires
-load-requires c κs = search needs
-
-load-requires-2 : tie.Need-load-requires-2
-load-requires-2 c κs = search needs
-
-zero-requires : tie.Need-zero-requires
-zero-requires c κs = search needs
 
 expand-requires : tie.Need-expand-requires
 unfolding callProgram maskedEncrypt
@@ -36,9 +26,6 @@ cipher-requires c κs =
     let expanded = rw (at-zero .zero .ensures, at-load .load .ensures) at (at-expand .expand .ensures) in
     (start .pre .0, rw (at-load2 .load2 .ensures) (ready-next _ (start .pre .1) expanded (omega (arith, at-expand .expand .kept))))
 
-same-length : tie.Need-same-length
-same-length c = search needs
-
 returns : tie.Need-returns
 unfolding callProgram maskedEncrypt
 returns c =
@@ -54,10 +41,10 @@ pub encrypt-spec : {M : Type 1} → statement M
 encrypt-spec =
     tie.close
     (tie.spec
-    load-requires
-    load-requires-2
-    zero-requires
+    (λ c κs. search needs)
+    (λ c κs. search needs)
+    (λ c κs. search needs)
     expand-requires
     cipher-requires
-    same-length
+    (λ c. search needs)
     returns)

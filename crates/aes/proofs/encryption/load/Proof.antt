@@ -18,18 +18,6 @@ abbrev μ-loop : tie.MeasureT-loop
 loop-holds : tie.Need-loop-holds Inv-loop μ-loop
 loop-holds c = filling _ _ _
 
-byte-at-requires : tie.Need-byte-at-requires Inv-loop μ-loop
-byte-at-requires c κs = search needs
-
-array-write-c : tie.Need-array-write-c Inv-loop μ-loop
-array-write-c c = search needs
-
-add-p : tie.Need-add-p Inv-loop μ-loop
-add-p c = search needs
-
-loop-less : tie.Need-loop-less Inv-loop μ-loop
-loop-less c = search needs
-
 loop-again : tie.Need-loop-again Inv-loop μ-loop
 loop-again c = filling-on (c .before .before .loop .inv) (c .before .loop-test .taken) (search needs) (c .byte-at .ensures)
 
@@ -44,9 +32,9 @@ load-spec =
     Inv-loop
     μ-loop
     loop-holds
-    byte-at-requires
-    array-write-c
-    add-p
-    loop-less
+    (λ c κs. search needs)
+    (λ c. search needs)
+    (λ c. search needs)
+    (λ c. search needs)
     loop-again
     returns)

@@ -18,19 +18,10 @@ abbrev μ-loop : tie.MeasureT-loop
 loop-holds : tie.Need-loop-holds Inv-loop μ-loop
 loop-holds c = filling _ _ _
 
-element-copy-out-out : tie.Need-element-copy-out-out Inv-loop μ-loop
-element-copy-out-out c = search needs
-
 slice-write-out : tie.Need-slice-write-out Inv-loop μ-loop
 slice-write-out c =
     let l = c .before .before .loop .inv in
     omega (arith, filling-length l (omega arith), c .before .loop-test .taken)
-
-add-p : tie.Need-add-p Inv-loop μ-loop
-add-p c = search needs
-
-loop-less : tie.Need-loop-less Inv-loop μ-loop
-loop-less c = search needs
 
 loop-again : tie.Need-loop-again Inv-loop μ-loop
 loop-again c = filling-on (c .before .before .loop .inv) (c .before .loop-test .taken) (omega arith) refl
@@ -48,10 +39,10 @@ store-spec =
     Inv-loop
     μ-loop
     loop-holds
-    element-copy-out-out
+    (λ c. search needs)
     slice-write-out
-    add-p
-    loop-less
+    (λ c. search needs)
+    (λ c. search needs)
     loop-again
     same-length
     returns)

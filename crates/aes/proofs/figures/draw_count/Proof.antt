@@ -7,9 +7,6 @@ use borrow.Author.Needs.{needs}
 use Rattle.aes.proofs.figures.draw_count.Statement.{statement}
 use Rattle.aes.proofs.figures.draw_count.Tie as tie
 
-sub-result : tie.Need-sub-result
-sub-result c = search needs
-
 mul-result : tie.Need-mul-result
 mul-result c = omega (arith, few-pairs (c .pre .1))
 
@@ -21,4 +18,4 @@ unfolding blockDraws
 returns c = refl
 
 pub draw-count-spec : {M : Type 1} → statement M
-draw-count-spec = tie.close (tie.spec sub-result mul-result mul-result-2 returns)
+draw-count-spec = tie.close (tie.spec (λ c. search needs) mul-result mul-result-2 returns)

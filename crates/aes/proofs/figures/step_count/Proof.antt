@@ -7,12 +7,6 @@ use borrow.Author.Needs.{needs}
 use Rattle.aes.proofs.figures.step_count.Statement.{statement}
 use Rattle.aes.proofs.figures.step_count.Tie as tie
 
-mul-result : tie.Need-mul-result
-mul-result c = search needs
-
-sub-result : tie.Need-sub-result
-sub-result c = search needs
-
 mul-result-2 : tie.Need-mul-result-2
 mul-result-2 c = omega (arith, few-pairs (c .pre .1), c .pre .1)
 
@@ -32,4 +26,4 @@ returns c = refl
 pub step-count-spec : {M : Type 1} → statement M
 step-count-spec =
     tie.close
-    (tie.spec mul-result sub-result mul-result-2 mul-result-3 add-result add-result-2 returns)
+    (tie.spec (λ c. search needs) (λ c. search needs) mul-result-2 mul-result-3 add-result add-result-2 returns)

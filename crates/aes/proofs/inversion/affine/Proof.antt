@@ -28,19 +28,10 @@ affine-share-requires c κs =
     let h = c .before .before .loop-test .taken in
     (search needs, going-ready (c .before .before .before .loop .inv) (search needs) h)
 
-add-i : tie.Need-add-i Inv-loop μ-loop
-add-i c = search needs
-
-loop-less : tie.Need-loop-less Inv-loop μ-loop
-loop-less c = search needs
-
 loop-again : tie.Need-loop-again Inv-loop μ-loop
 loop-again c =
     let h = c .before .before .before .before .before .loop-test .taken in
     going-on (c .before .before .before .before .before .before .loop .inv) h (c .before .before .affine-share .ensures) (search needs)
-
-same-length : tie.Need-same-length Inv-loop μ-loop
-same-length c = search needs
 
 returns : tie.Need-returns Inv-loop μ-loop
 unfolding program byShare
@@ -54,8 +45,8 @@ affine-spec =
     μ-loop
     loop-holds
     affine-share-requires
-    add-i
-    loop-less
+    (λ c. search needs)
+    (λ c. search needs)
     loop-again
-    same-length
+    (λ c. search needs)
     returns)

@@ -6,25 +6,10 @@ use borrow.Author.Needs.{needs}
 use Rattle.aes.proofs.inversion.affine_share.Statement.{statement}
 use Rattle.aes.proofs.inversion.affine_share.Tie as tie
 
-element-copy-out-linear-part : tie.Need-element-copy-out-linear-part
-element-copy-out-linear-part c = search needs
-
-linear-part-requires : tie.Need-linear-part-requires
-linear-part-requires c κs = search needs
-
-constant-requires : tie.Need-constant-requires
-constant-requires c κs = search needs
-
 record-requires : tie.Need-record-requires
 record-requires c κs =
     let start = c .before .before .before .before .before .before in
     affine-room (start .args .i) (start .args .a .now) (start .args .c .now) (start .pre .1)
-
-element-write-c : tie.Need-element-write-c
-element-write-c c = search needs
-
-same-length : tie.Need-same-length
-same-length c = search needs
 
 returns : tie.Need-returns
 unfolding _⊕_
@@ -41,10 +26,10 @@ pub affine-share-spec : {M : Type 1} → statement M
 affine-share-spec =
     tie.close
     (tie.spec
-    element-copy-out-linear-part
-    linear-part-requires
-    constant-requires
+    (λ c. search needs)
+    (λ c κs. search needs)
+    (λ c κs. search needs)
     record-requires
-    element-write-c
-    same-length
+    (λ c. search needs)
+    (λ c. search needs)
     returns)

@@ -9,28 +9,10 @@ use borrow.Author.Needs.{needs}
 use Rattle.aes.proofs.key_expansion.add_rcon.Statement.{statement}
 use Rattle.aes.proofs.key_expansion.add_rcon.Tie as tie
 
-sub-e : tie.Need-sub-e
-sub-e c = search needs
-
-cast-e : tie.Need-cast-e
-cast-e c = search needs
-
-element-copy-out-v : tie.Need-element-copy-out-v
-element-copy-out-v c = search needs
-
-power-of-two-requires : tie.Need-power-of-two-requires
-power-of-two-requires c κs = search needs
-
 record-requires : tie.Need-record-requires
 record-requires c κs =
     let start = c .before .before .before .before .before in
     rcon-room (start .args .r) (start .args .t .now) (start .pre .1)
-
-element-write-t : tie.Need-element-write-t
-element-write-t c = search needs
-
-same-length : tie.Need-same-length
-same-length c = search needs
 
 returns : tie.Need-returns
 unfolding _⊕_ rcon
@@ -45,11 +27,11 @@ pub add-rcon-spec : {M : Type 1} → statement M
 add-rcon-spec =
     tie.close
     (tie.spec
-    sub-e
-    cast-e
-    element-copy-out-v
-    power-of-two-requires
+    (λ c. search needs)
+    (λ c. search needs)
+    (λ c. search needs)
+    (λ c κs. search needs)
     record-requires
-    element-write-t
-    same-length
+    (λ c. search needs)
+    (λ c. search needs)
     returns)

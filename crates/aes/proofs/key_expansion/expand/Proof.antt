@@ -1,15 +1,8 @@
 -- `key_expansion::expand` meets its contract: the key is put in place, and the round keys are made.
 use borrow.Author.Needs.{needs}
 use Rattle.rijndael.specs.Masked.{maskedKeyExpansion}
-use borrow.Author.Needs.{needs}
 use Rattle.aes.proofs.key_expansion.expand.Statement.{statement}
 use Rattle.aes.proofs.key_expansion.expand.Tie as tie
-
-slice-aggregate-put-shares : tie.Need-slice-aggregate-put-shares
-slice-aggregate-put-shares c = search needs
-
-put-shares-requires : tie.Need-put-shares-requires
-put-shares-requires c κs = search needs
 
 next-keys-requires : tie.Need-next-keys-requires
 unfolding maskedKeyExpansion
@@ -17,9 +10,6 @@ next-keys-requires c κs =
     let at-put-shares = c .before .before .before in
     let start = at-put-shares .before .before .before .before .before .before in
     (start .pre .0, rw (at-put-shares .put-shares .ensures) (start .pre .1))
-
-same-length : tie.Need-same-length
-same-length c = search needs
 
 returns : tie.Need-returns
 unfolding maskedKeyExpansion
@@ -32,8 +22,8 @@ pub expand-spec : {M : Type 1} → statement M
 expand-spec =
     tie.close
     (tie.spec
-    slice-aggregate-put-shares
-    put-shares-requires
+    (λ c. search needs)
+    (λ c κs. search needs)
     next-keys-requires
-    same-length
+    (λ c. search needs)
     returns)

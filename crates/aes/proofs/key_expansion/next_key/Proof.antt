@@ -5,7 +5,6 @@ use Rattle.steps.proofs.Parts.{ready-first, ready-next, went-then, went-map}
 use Rattle.steps.proofs.StepsAlone.{ready-steps, went-steps, went-counted}
 use Rattle.rijndael.specs.Masked.{maskedNextKey as program}
 use Rattle.aes.proofs.Runs.{rot-alone, rcon-alone, words-alone}
-use borrow.Author.Needs.{needs}
 use Rattle.aes.proofs.key_expansion.next_key.Statement.{statement}
 use Rattle.aes.proofs.key_expansion.next_key.Tie as tie
 
@@ -14,9 +13,6 @@ unfolding program
 rotated-requires c κs =
     let start = c .before .before .before .before .before in
     (start .pre .0, ready-steps (rot-alone _ _ _) (ready-first _ _ (start .pre .1)))
-
-with-steps-requires : tie.Need-with-steps-requires
-with-steps-requires c κs = search needs
 
 sub-word-requires : tie.Need-sub-word-requires
 unfolding program
@@ -51,9 +47,6 @@ words-requires c κs =
     let ready-3 = ready-next _ (ready-2) (went-steps (rcon-alone _ _) (at-add-rcon .add-rcon .ensures)) (omega (arith, at-add-rcon .add-rcon .kept)) in
     (start .pre .0, ready-steps (words-alone _ _ _) (ready-first _ _ ready-3))
 
-with-steps-requires-2 : tie.Need-with-steps-requires-2
-with-steps-requires-2 c κs = search needs
-
 same-length : tie.Need-same-length
 same-length c =
     let at-words = c .before .before .before in
@@ -81,10 +74,10 @@ next-key-spec =
     tie.close
     (tie.spec
     rotated-requires
-    with-steps-requires
+    (λ c κs. search needs)
     sub-word-requires
     add-rcon-requires
     words-requires
-    with-steps-requires-2
+    (λ c κs. search needs)
     same-length
     returns)

@@ -27,21 +27,12 @@ next-key-requires c κs =
     let h = at-loop-test .loop-test .taken in
     ((start .pre .0, at-loop .loop .inv .begun, h), going-ready (at-loop .loop .inv) (start .pre .1) h)
 
-add-r : tie.Need-add-r Inv-loop μ-loop
-add-r c = search needs
-
-loop-less : tie.Need-loop-less Inv-loop μ-loop
-loop-less c = search needs
-
 loop-again : tie.Need-loop-again Inv-loop μ-loop
 loop-again c =
     let at-next-key = c .before .before in
     let at-loop-test = at-next-key .before .before .before in
     let at-loop = at-loop-test .before in
     going-on (at-loop .loop .inv) (at-loop-test .loop-test .taken) (at-next-key .next-key .ensures) (search needs)
-
-same-length : tie.Need-same-length Inv-loop μ-loop
-same-length c = search needs
 
 returns : tie.Need-returns Inv-loop μ-loop
 returns c = gone (c .before .loop .inv) (c .loop-test .left)
@@ -54,8 +45,8 @@ next-keys-spec =
     μ-loop
     loop-holds
     next-key-requires
-    add-r
-    loop-less
+    (λ c. search needs)
+    (λ c. search needs)
     loop-again
-    same-length
+    (λ c. search needs)
     returns)

@@ -2,15 +2,8 @@
 use Rattle.rijndael.specs.Masked.{maskedRotWord}
 use Rattle.aes.proofs.Runs.{recorded-ready, recorded-went}
 use borrow.Author.Needs.{needs}
-use borrow.Author.Needs.{needs}
 use Rattle.aes.proofs.key_expansion.rotated.Statement.{statement}
 use Rattle.aes.proofs.key_expansion.rotated.Tie as tie
-
-rot-word-requires : tie.Need-rot-word-requires
-rot-word-requires c κs = search needs
-
-slice-aggregate-record-string : tie.Need-slice-aggregate-record-string
-slice-aggregate-record-string c = search needs
 
 record-string-requires : tie.Need-record-string-requires
 unfolding maskedRotWord
@@ -18,9 +11,6 @@ record-string-requires c κs =
     let at-rot-word = c .before .before in
     let start = at-rot-word .before .before .before in
     (search needs, recorded-ready 4 _ _ _ (start .pre .1) (at-rot-word .rot-word .ensures))
-
-same-length : tie.Need-same-length
-same-length c = search needs
 
 returns : tie.Need-returns
 unfolding maskedRotWord
@@ -33,8 +23,8 @@ pub rotated-spec : {M : Type 1} → statement M
 rotated-spec =
     tie.close
     (tie.spec
-    rot-word-requires
-    slice-aggregate-record-string
+    (λ c κs. search needs)
+    (λ c. search needs)
     record-string-requires
-    same-length
+    (λ c. search needs)
     returns)

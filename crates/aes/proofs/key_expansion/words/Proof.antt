@@ -21,12 +21,6 @@ abbrev μ-loop : tie.MeasureT-loop
 loop-holds : tie.Need-loop-holds Inv-loop μ-loop
 loop-holds c = search going
 
-mul-extended : tie.Need-mul-extended Inv-loop μ-loop
-mul-extended c = search needs
-
-add-extended : tie.Need-add-extended Inv-loop μ-loop
-add-extended c = search needs
-
 extended-requires : tie.Need-extended-requires Inv-loop μ-loop
 extended-requires c κs =
     let at-loop-test = c .before .before .before in
@@ -35,21 +29,12 @@ extended-requires c κs =
     let h = at-loop-test .loop-test .taken in
     ((start .pre .0 .0, omega (arith, start .pre .0), omega (arith, start .pre .0, h)), going-ready (at-loop .loop .inv) (start .pre .1) h)
 
-add-k : tie.Need-add-k Inv-loop μ-loop
-add-k c = search needs
-
-loop-less : tie.Need-loop-less Inv-loop μ-loop
-loop-less c = search needs
-
 loop-again : tie.Need-loop-again Inv-loop μ-loop
 loop-again c =
     let at-extended = c .before .before .before in
     let at-loop-test = at-extended .before .before .before .before in
     let at-loop = at-loop-test .before in
     going-on (at-loop .loop .inv) (at-loop-test .loop-test .taken) (at-extended .extended .ensures) (search needs)
-
-same-length : tie.Need-same-length Inv-loop μ-loop
-same-length c = search needs
 
 returns : tie.Need-returns Inv-loop μ-loop
 returns c = gone (c .before .loop .inv) (c .loop-test .left)
@@ -61,11 +46,11 @@ words-spec =
     Inv-loop
     μ-loop
     loop-holds
-    mul-extended
-    add-extended
+    (λ c. search needs)
+    (λ c. search needs)
     extended-requires
-    add-k
-    loop-less
+    (λ c. search needs)
+    (λ c. search needs)
     loop-again
-    same-length
+    (λ c. search needs)
     returns)

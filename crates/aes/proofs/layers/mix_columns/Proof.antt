@@ -14,23 +14,8 @@ Inv-loop s a c₀ count p₀ c p = Filling c₀ (placeOf 16 0 16 mixByte a []) c
 abbrev μ-loop : tie.MeasureT-loop
 μ-loop s a c₀ count p₀ c p = count - p
 
-mul-count : tie.Need-mul-count Inv-loop μ-loop
-mul-count c = search needs
-
 loop-holds : tie.Need-loop-holds Inv-loop μ-loop
 loop-holds c = filling _ _ _
-
-mix-place-requires : tie.Need-mix-place-requires Inv-loop μ-loop
-mix-place-requires c κs = search needs
-
-array-write-c : tie.Need-array-write-c Inv-loop μ-loop
-array-write-c c = search needs
-
-add-p : tie.Need-add-p Inv-loop μ-loop
-add-p c = search needs
-
-loop-less : tie.Need-loop-less Inv-loop μ-loop
-loop-less c = search needs
 
 loop-again : tie.Need-loop-again Inv-loop μ-loop
 loop-again c = filling-on (c .before .before .loop .inv) (c .before .loop-test .taken) (search needs) (c .mix-place .ensures)
@@ -45,11 +30,11 @@ mix-columns-spec =
     (tie.spec
     Inv-loop
     μ-loop
-    mul-count
+    (λ c. search needs)
     loop-holds
-    mix-place-requires
-    array-write-c
-    add-p
-    loop-less
+    (λ c κs. search needs)
+    (λ c. search needs)
+    (λ c. search needs)
+    (λ c. search needs)
     loop-again
     returns)

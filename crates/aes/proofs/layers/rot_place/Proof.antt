@@ -4,27 +4,6 @@ use borrow.Author.Needs.{needs}
 use Rattle.aes.proofs.layers.rot_place.Statement.{statement}
 use Rattle.aes.proofs.layers.rot_place.Tie as tie
 
-mul-result : tie.Need-mul-result
-mul-result c = search needs
-
-mul-result-2 : tie.Need-mul-result-2
-mul-result-2 c = search needs
-
-sub-result : tie.Need-sub-result
-sub-result c = search needs
-
-add-result : tie.Need-add-result
-add-result c = search needs
-
-add-result-2 : tie.Need-add-result-2
-add-result-2 c = search needs
-
-add-result-3 : tie.Need-add-result-3
-add-result-3 c = search needs
-
-element-copy-out-result : tie.Need-element-copy-out-result
-element-copy-out-result c = search needs
-
 returns : tie.Need-returns
 returns c = let a = c .before .args in rot-place (a .r) (a .w .now) (a .p)
 
@@ -32,11 +11,11 @@ pub rot-place-spec : {M : Type 1} → statement M
 rot-place-spec =
     tie.close
     (tie.spec
-    mul-result
-    mul-result-2
-    sub-result
-    add-result
-    add-result-2
-    add-result-3
-    element-copy-out-result
+    (λ c. search needs)
+    (λ c. search needs)
+    (λ c. search needs)
+    (λ c. search needs)
+    (λ c. search needs)
+    (λ c. search needs)
+    (λ c. search needs)
     returns)

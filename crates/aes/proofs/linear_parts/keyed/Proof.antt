@@ -5,18 +5,9 @@ use borrow.Author.Needs.{needs}
 use Rattle.aes.proofs.linear_parts.keyed.Statement.{statement}
 use Rattle.aes.proofs.linear_parts.keyed.Tie as tie
 
-add-round-key-requires : tie.Need-add-round-key-requires
-add-round-key-requires c κs = search needs
-
-slice-aggregate-record-string : tie.Need-slice-aggregate-record-string
-slice-aggregate-record-string c = search needs
-
 record-string-requires : tie.Need-record-string-requires
 unfolding maskedAddRoundKey
 record-string-requires c κs = (search needs, recorded-ready 16 _ _ _ (c .before .before .before .before .before .pre .1) (c .before .before .add-round-key .ensures))
-
-same-length : tie.Need-same-length
-same-length c = search needs
 
 returns : tie.Need-returns
 unfolding maskedAddRoundKey
@@ -26,8 +17,8 @@ pub keyed-spec : {M : Type 1} → statement M
 keyed-spec =
     tie.close
     (tie.spec
-    add-round-key-requires
-    slice-aggregate-record-string
+    (λ c κs. search needs)
+    (λ c. search needs)
     record-string-requires
-    same-length
+    (λ c. search needs)
     returns)

@@ -5,18 +5,9 @@ use borrow.Author.Needs.{needs}
 use Rattle.aes.proofs.linear_parts.mixed.Statement.{statement}
 use Rattle.aes.proofs.linear_parts.mixed.Tie as tie
 
-mix-columns-requires : tie.Need-mix-columns-requires
-mix-columns-requires c κs = search needs
-
-slice-aggregate-record-string : tie.Need-slice-aggregate-record-string
-slice-aggregate-record-string c = search needs
-
 record-string-requires : tie.Need-record-string-requires
 unfolding maskedMixColumns
 record-string-requires c κs = (search needs, recorded-ready 16 _ _ _ (c .before .before .before .before .before .pre .1) (c .before .before .mix-columns .ensures))
-
-same-length : tie.Need-same-length
-same-length c = search needs
 
 returns : tie.Need-returns
 unfolding maskedMixColumns
@@ -26,8 +17,8 @@ pub mixed-spec : {M : Type 1} → statement M
 mixed-spec =
     tie.close
     (tie.spec
-    mix-columns-requires
-    slice-aggregate-record-string
+    (λ c κs. search needs)
+    (λ c. search needs)
     record-string-requires
-    same-length
+    (λ c. search needs)
     returns)

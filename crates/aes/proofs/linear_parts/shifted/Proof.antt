@@ -5,18 +5,9 @@ use borrow.Author.Needs.{needs}
 use Rattle.aes.proofs.linear_parts.shifted.Statement.{statement}
 use Rattle.aes.proofs.linear_parts.shifted.Tie as tie
 
-shift-rows-requires : tie.Need-shift-rows-requires
-shift-rows-requires c κs = search needs
-
-slice-aggregate-record-string : tie.Need-slice-aggregate-record-string
-slice-aggregate-record-string c = search needs
-
 record-string-requires : tie.Need-record-string-requires
 unfolding maskedShiftRows
 record-string-requires c κs = (search needs, recorded-ready 16 _ _ _ (c .before .before .before .before .before .pre .1) (c .before .before .shift-rows .ensures))
-
-same-length : tie.Need-same-length
-same-length c = search needs
 
 returns : tie.Need-returns
 unfolding maskedShiftRows
@@ -26,8 +17,8 @@ pub shifted-spec : {M : Type 1} → statement M
 shifted-spec =
     tie.close
     (tie.spec
-    shift-rows-requires
-    slice-aggregate-record-string
+    (λ c κs. search needs)
+    (λ c. search needs)
     record-string-requires
-    same-length
+    (λ c. search needs)
     returns)

@@ -19,32 +19,11 @@ loop-holds : tie.Need-loop-holds Inv-loop μ-loop
 unfolding putPlaces
 loop-holds c = (search needs, refl, refl)
 
-add-a : tie.Need-add-a Inv-loop μ-loop
-add-a c = search needs
-
-shared-slice-read-a : tie.Need-shared-slice-read-a Inv-loop μ-loop
-shared-slice-read-a c = search needs
-
-add-a-2 : tie.Need-add-a-2 Inv-loop μ-loop
-add-a-2 c = search needs
-
-slice-write-a : tie.Need-slice-write-a Inv-loop μ-loop
-slice-write-a c = search needs
-
-add-k : tie.Need-add-k Inv-loop μ-loop
-add-k c = search needs
-
-loop-less : tie.Need-loop-less Inv-loop μ-loop
-loop-less c = search needs
-
 loop-again : tie.Need-loop-again Inv-loop μ-loop
 unfolding putPlaces
 loop-again c =
     let l = c .before .before .loop in
     (search needs, rw (add-one (l .k), l .inv .1), simp length-set (l .inv .2))
-
-same-length : tie.Need-same-length Inv-loop μ-loop
-same-length c = search needs
 
 returns : tie.Need-returns Inv-loop μ-loop
 returns c =
@@ -59,12 +38,12 @@ put-places-spec =
     Inv-loop
     μ-loop
     loop-holds
-    add-a
-    shared-slice-read-a
-    add-a-2
-    slice-write-a
-    add-k
-    loop-less
+    (λ c. search needs)
+    (λ c. search needs)
+    (λ c. search needs)
+    (λ c. search needs)
+    (λ c. search needs)
+    (λ c. search needs)
     loop-again
-    same-length
+    (λ c. search needs)
     returns)

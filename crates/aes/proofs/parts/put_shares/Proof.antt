@@ -41,21 +41,12 @@ put-places-requires c κs =
     let h = c .before .loop-test .taken in
     (omega (arith, within (start .args .m) h, start .pre .0, start .pre .4), omega (arith, within (start .args .n) h, start .pre .3))
 
-add-i : tie.Need-add-i Inv-loop μ-loop
-add-i c = search needs
-
-loop-less : tie.Need-loop-less Inv-loop μ-loop
-loop-less c = search needs
-
 loop-again : tie.Need-loop-again Inv-loop μ-loop
 unfolding putShares
 loop-again c =
     let l = c .before .before .before .before .before .loop in
     let put = c .before .before .put-places in
     (search needs, put .ensures ∙ rw (add-one (l .i), l .inv .1), omega (arith, put .kept, l .inv .2))
-
-same-length : tie.Need-same-length Inv-loop μ-loop
-same-length c = search needs
 
 returns : tie.Need-returns Inv-loop μ-loop
 returns c =
@@ -74,8 +65,8 @@ put-shares-spec =
     add-put-places
     mul-put-places-2
     put-places-requires
-    add-i
-    loop-less
+    (λ c. search needs)
+    (λ c. search needs)
     loop-again
-    same-length
+    (λ c. search needs)
     returns)

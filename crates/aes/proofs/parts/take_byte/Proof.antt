@@ -37,15 +37,6 @@ shared-slice-read-c c =
     let start = c .before .before .before in
     omega (arith, within (start .args .m) (c .before .loop-test .taken), start .pre .0, start .pre .3)
 
-array-write-c : tie.Need-array-write-c Inv-loop μ-loop
-array-write-c c = search needs
-
-add-i : tie.Need-add-i Inv-loop μ-loop
-add-i c = search needs
-
-loop-less : tie.Need-loop-less Inv-loop μ-loop
-loop-less c = search needs
-
 loop-again : tie.Need-loop-again Inv-loop μ-loop
 loop-again c =
     let a = c .before .before .before .args in
@@ -69,8 +60,8 @@ take-byte-spec =
     mul-c
     add-c
     shared-slice-read-c
-    array-write-c
-    add-i
-    loop-less
+    (λ c. search needs)
+    (λ c. search needs)
+    (λ c. search needs)
     loop-again
     returns)

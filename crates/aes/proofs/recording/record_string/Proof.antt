@@ -7,9 +7,6 @@ use borrow.Author.Needs.{needs}
 use Rattle.aes.proofs.recording.record_string.Statement.{statement}
 use Rattle.aes.proofs.recording.record_string.Tie as tie
 
-mul-count : tie.Need-mul-count
-mul-count c = search needs
-
 slice-aggregate-record-all : tie.Need-slice-aggregate-record-all
 slice-aggregate-record-all c = sym (length-take-le _ _ (c .before .before .before .before .before .pre .0 .2))
 
@@ -18,9 +15,6 @@ record-all-requires c κs =
     let start = c .before .before .before .before .before in
     let room = bytes-room _ _ _ (start .pre .0 .2) (start .pre .1) in
     (search needs, rw (length-take-le _ _ (start .pre .0 .2)) (room .1))
-
-same-length : tie.Need-same-length
-same-length c = search needs
 
 returns : tie.Need-returns
 returns c =
@@ -31,4 +25,4 @@ returns c =
 pub record-string-spec : {M : Type 1} → statement M
 record-string-spec =
     tie.close
-    (tie.spec mul-count slice-aggregate-record-all record-all-requires same-length returns)
+    (tie.spec (λ c. search needs) slice-aggregate-record-all record-all-requires (λ c. search needs) returns)

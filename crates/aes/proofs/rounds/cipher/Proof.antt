@@ -5,7 +5,6 @@ use Rattle.steps.proofs.Parts.{ready-first, ready-next, went-then}
 use Rattle.steps.proofs.StepsAlone.{ready-steps, went-counted}
 use Rattle.rijndael.specs.Masked.{maskedCipher as program}
 use Rattle.aes.proofs.Runs.{key-alone}
-use borrow.Author.Needs.{needs}
 use Rattle.aes.proofs.rounds.cipher.Statement.{statement}
 use Rattle.aes.proofs.rounds.cipher.Tie as tie
 
@@ -14,9 +13,6 @@ unfolding program
 keyed-requires c κs =
     let start = c .before .before .before .before in
     ((start .pre .0, omega arith), ready-steps (key-alone _ _ _ _) (ready-first _ _ (start .pre .1)))
-
-with-steps-requires : tie.Need-with-steps-requires
-with-steps-requires c κs = search needs
 
 rounds-requires : tie.Need-rounds-requires
 unfolding program
@@ -38,9 +34,6 @@ last-round-requires c κs =
     let ready-2 = ready-next _ (ready-1) (at-rounds .rounds .ensures) (omega (arith, at-rounds .rounds .kept)) in
     (start .pre .0, ready-2)
 
-same-length : tie.Need-same-length
-same-length c = search needs
-
 returns : tie.Need-returns
 unfolding program
 returns c =
@@ -57,8 +50,8 @@ cipher-spec =
     tie.close
     (tie.spec
     keyed-requires
-    with-steps-requires
+    (λ c κs. search needs)
     rounds-requires
     last-round-requires
-    same-length
+    (λ c. search needs)
     returns)

@@ -5,7 +5,6 @@ use Rattle.steps.proofs.Parts.{ready-first, ready-next, went-then}
 use Rattle.steps.proofs.StepsAlone.{ready-steps, went-steps, went-counted}
 use Rattle.rijndael.specs.Masked.{maskedLastRound as program}
 use Rattle.aes.proofs.Runs.{shift-alone, key-alone}
-use borrow.Author.Needs.{needs}
 use Rattle.aes.proofs.rounds.last_round.Statement.{statement}
 use Rattle.aes.proofs.rounds.last_round.Tie as tie
 
@@ -33,12 +32,6 @@ keyed-requires c κs =
     let ready-2 = ready-next _ (ready-1) (went-steps (shift-alone _ _) (at-shifted .shifted .ensures)) (omega (arith, at-shifted .shifted .kept)) in
     ((start .pre .0, omega arith), ready-steps (key-alone _ _ _ _) (ready-2))
 
-with-steps-requires : tie.Need-with-steps-requires
-with-steps-requires c κs = search needs
-
-same-length : tie.Need-same-length
-same-length c = search needs
-
 returns : tie.Need-returns
 unfolding program
 returns c =
@@ -57,6 +50,6 @@ last-round-spec =
     sub-bytes-requires
     shifted-requires
     keyed-requires
-    with-steps-requires
-    same-length
+    (λ c κs. search needs)
+    (λ c. search needs)
     returns)

@@ -5,7 +5,6 @@ use Rattle.steps.proofs.Parts.{ready-first, ready-next, went-then}
 use Rattle.steps.proofs.StepsAlone.{ready-steps, went-steps, went-counted}
 use Rattle.rijndael.specs.Masked.{maskedRound as program}
 use Rattle.aes.proofs.Runs.{shift-alone, mix-alone, key-alone}
-use borrow.Author.Needs.{needs}
 use Rattle.aes.proofs.rounds.round.Statement.{statement}
 use Rattle.aes.proofs.rounds.round.Tie as tie
 
@@ -45,9 +44,6 @@ keyed-requires c κs =
     let ready-3 = ready-next _ (ready-2) (went-steps (mix-alone _ _) (at-mixed .mixed .ensures)) (omega (arith, at-mixed .mixed .kept)) in
     (start .pre .0, ready-steps (key-alone _ _ _ _) (ready-3))
 
-with-steps-requires : tie.Need-with-steps-requires
-with-steps-requires c κs = search needs
-
 same-length : tie.Need-same-length
 same-length c =
     let at-keyed = c .before .before .before .before in
@@ -77,6 +73,6 @@ round-spec =
     shifted-requires
     mixed-requires
     keyed-requires
-    with-steps-requires
+    (λ c κs. search needs)
     same-length
     returns)

@@ -27,21 +27,12 @@ round-requires c κs =
     let h = at-loop-test .loop-test .taken in
     ((start .pre .0, search needs), going-ready (at-loop .loop .inv) (start .pre .1) h)
 
-add-r : tie.Need-add-r Inv-loop μ-loop
-add-r c = search needs
-
-loop-less : tie.Need-loop-less Inv-loop μ-loop
-loop-less c = search needs
-
 loop-again : tie.Need-loop-again Inv-loop μ-loop
 loop-again c =
     let at-round = c .before .before in
     let at-loop-test = at-round .before .before in
     let at-loop = at-loop-test .before in
     going-on (at-loop .loop .inv) (at-loop-test .loop-test .taken) (at-round .round .ensures) (search needs)
-
-same-length : tie.Need-same-length Inv-loop μ-loop
-same-length c = search needs
 
 returns : tie.Need-returns Inv-loop μ-loop
 returns c = gone (c .before .loop .inv) (c .loop-test .left)
@@ -54,8 +45,8 @@ rounds-spec =
     μ-loop
     loop-holds
     round-requires
-    add-r
-    loop-less
+    (λ c. search needs)
+    (λ c. search needs)
     loop-again
-    same-length
+    (λ c. search needs)
     returns)

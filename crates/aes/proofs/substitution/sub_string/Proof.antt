@@ -31,12 +31,6 @@ sub-byte-requires c κs =
     let h = at-loop-test .loop-test .taken in
     ((h, start .pre .0 .0, start .pre .0 .1, omega (arith, start .pre .0 .2, at-loop .loop .inv .1)), going-ready (at-loop .loop .inv .0) (start .pre .1) h)
 
-add-j : tie.Need-add-j Inv-loop μ-loop
-add-j c = search needs
-
-loop-less : tie.Need-loop-less Inv-loop μ-loop
-loop-less c = search needs
-
 loop-again : tie.Need-loop-again Inv-loop μ-loop
 loop-again c =
     let at-sub-byte = c .before .before .before .before in
@@ -44,12 +38,6 @@ loop-again c =
     let at-loop = at-loop-test .before in
     let turn = at-sub-byte .sub-byte in
     (going-on (at-loop .loop .inv .0) (at-loop-test .loop-test .taken) (turn .ensures) (search needs), search needs)
-
-same-length : tie.Need-same-length Inv-loop μ-loop
-same-length c = search needs
-
-same-length-2 : tie.Need-same-length-2 Inv-loop μ-loop
-same-length-2 c = search needs
 
 returns : tie.Need-returns Inv-loop μ-loop
 unfolding maskedSubBytes
@@ -63,9 +51,9 @@ sub-string-spec =
     μ-loop
     loop-holds
     sub-byte-requires
-    add-j
-    loop-less
+    (λ c. search needs)
+    (λ c. search needs)
     loop-again
-    same-length
-    same-length-2
+    (λ c. search needs)
+    (λ c. search needs)
     returns)

@@ -12,18 +12,8 @@ use Rattle.steps.proofs.Machine.{went-whole}
 use Rattle.steps.proofs.Tape.{elements-bytes}
 use Rattle.aes.specs.Figures.{blockSteps}
 use Rattle.aes.proofs.Calls.{call-ready, call-counts, call-watched}
-use borrow.Author.Needs.{needs}
 use Rattle.aes.proofs.watching.watch.Statement.{statement}
 use Rattle.aes.proofs.watching.watch.Tie as tie
-
-step-count-requires : tie.Need-step-count-requires
-step-count-requires c κs = search needs
-
-first-past-requires : tie.Need-first-past-requires
-first-past-requires c κs = search needs
-
-refuse-requires : tie.Need-refuse-requires
-refuse-requires c κs = search needs
 
 returns : tie.Need-returns
 returns c =
@@ -48,12 +38,6 @@ encrypt-requires c κs =
     let hr : Small 8 (start .args .random .now) = λ j. omega (arith, at-shared-slice-known3 .shared-slice-known3 .given j) in
     let p = start .pre in
     (p .0 .nine, call-ready (p .0) hk hb (elements-bytes _ hr) (p .1))
-
-bytes-for-requires : tie.Need-bytes-for-requires
-bytes-for-requires c κs = search needs
-
-same-length : tie.Need-same-length
-same-length c = search needs
 
 returns-2 : tie.Need-returns-2
 returns-2 c =
@@ -81,11 +65,11 @@ pub watch-spec : {M : Type 1} → statement M
 watch-spec =
     tie.close
     (tie.spec
-    step-count-requires
-    first-past-requires
-    refuse-requires
+    (λ c κs. search needs)
+    (λ c κs. search needs)
+    (λ c κs. search needs)
     returns
     encrypt-requires
-    bytes-for-requires
-    same-length
+    (λ c κs. search needs)
+    (λ c. search needs)
     returns-2)

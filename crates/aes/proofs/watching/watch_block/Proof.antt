@@ -14,25 +14,10 @@ use borrow.Author.Needs.{needs}
 use Rattle.aes.proofs.watching.watch_block.Statement.{statement}
 use Rattle.aes.proofs.watching.watch_block.Tie as tie
 
-list-fits-requires : tie.Need-list-fits-requires
-list-fits-requires c κs = search needs
-
 -- where the tests are passed
 tested : (c : tie.After-enum-told) → let a = c .before .before .before .before .before .before .before .before .before .args in
     callTests (a .s) (length (a .key .now)) (length (a .block .now)) (length (a .random .now)) (eqb (length (a .list .now)) (length (a .values .now)) && leb (length (a .list .now)) 64) ≡ done []
 tested c = rw (← (c .before .before .before .list-fits .ensures)) (sym (c .before .before .call-tests .ensures) ∙ ap testedReport (c .enum-told .given .1))
-
-call-tests-requires : tie.Need-call-tests-requires
-call-tests-requires c κs = search needs
-
-enum-known-tested : tie.Need-enum-known-tested
-enum-known-tested c = search needs
-
-refuse-requires : tie.Need-refuse-requires
-refuse-requires c κs = search needs
-
-enum-told : tie.Need-enum-told
-enum-told c = search needs
 
 watch-requires : tie.Need-watch-requires
 watch-requires c κs =
@@ -50,9 +35,6 @@ returns c =
     let e = sym (at-call-tests .call-tests .ensures) ∙ ap testedReport (at-tested .tested .given .1) in
     refuses (at-refuse .refuse .ensures) (rw (← (at-list-fits .list-fits .ensures), e))
 
-same-length : tie.Need-same-length
-same-length c = search needs
-
 returns-2 : tie.Need-returns-2
 unfolding watchOutcome blockCall call.watchOutcome
 returns-2 c =
@@ -64,12 +46,12 @@ pub watch-block-spec : {M : Type 1} → statement M
 watch-block-spec =
     tie.close
     (tie.spec
-    list-fits-requires
-    call-tests-requires
-    enum-known-tested
-    refuse-requires
-    enum-told
+    (λ c κs. search needs)
+    (λ c κs. search needs)
+    (λ c. search needs)
+    (λ c κs. search needs)
+    (λ c. search needs)
     watch-requires
     returns
-    same-length
+    (λ c. search needs)
     returns-2)

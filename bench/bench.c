@@ -33,7 +33,7 @@ static struct {
     size_t turn;
     uint8_t a[TURNS][SHARES];
     uint8_t record[RECORD_6], table[ELEMENTS_6], work[WORK_6];
-    uint8_t key[16 * SHARES], block[16 * SHARES], random[527 * SHARES * (SHARES - 1)];
+    uint8_t key[16 * SHARES], block[16 * SHARES], random[400 * SHARES * (SHARES - 1)];
     uint8_t out[16 * SHARES];
 } in;
 
@@ -53,7 +53,7 @@ static void prepare(unsigned width, size_t s)
         fill_below(1u << width, in.a[i], s);
     fill_below(256, in.key, 16 * s);
     fill_below(256, in.block, 16 * s);
-    fill_below(1u << width, in.random, sizeof in.random);
+    fill_below(random_bound(width), in.random, sizeof in.random);
 }
 
 static size_t next_turn(void)
@@ -68,7 +68,7 @@ static size_t next_turn(void)
 static void run_sbox(const struct plain *by)
 {
     const uint8_t *x = in.a[next_turn()];
-    size_t n = in.z.products * pairs(in.s);
+    size_t n = random_bytes(in.width, in.z.products * pairs(in.s));
     uint64_t answer[4];
     if (by == NULL)
         ll_sbox(in.record, in.z.record, (uint32_t)in.s, x, in.s, in.random, n, in.out, in.s, answer);
@@ -78,7 +78,7 @@ static void run_sbox(const struct plain *by)
 
 static void run_block(const struct plain *by)
 {
-    size_t n = 527 * in.s * (in.s - 1);
+    size_t n = random_bytes(4, 527 * in.s * (in.s - 1));
     uint64_t answer[4];
     if (by == NULL)
         ll_block(in.record, in.z.record, (uint32_t)in.s, in.key, 10 * in.s, in.block, 8 * in.s, in.random, n, in.out, 8 * in.s, answer);

@@ -17,9 +17,9 @@ static int field_examples(const struct plain *p)
 
 static int product_example(const struct plain *p)
 {
-    const uint8_t a[SHARES] = {1, 2, 0}, b[SHARES] = {4, 0, 1}, random[3] = {1, 2, 3}, expected[SHARES] = {7, 10, 2};
+    const uint8_t a[SHARES] = {1, 2, 0}, b[SHARES] = {4, 0, 1}, random[2] = {0x12, 0x30}, expected[SHARES] = {7, 10, 2};
     uint8_t c[SHARES];
-    return p->product(4, 3, a, SHARES, b, SHARES, random, 3, c, SHARES) == 0 && memcmp(c, expected, SHARES) == 0;
+    return p->product(4, 3, a, SHARES, b, SHARES, random, 2, c, SHARES) == 0 && memcmp(c, expected, SHARES) == 0;
 }
 
 // The shares of a product join to the product of the joined factors.
@@ -28,8 +28,9 @@ static int product_joins(const struct plain *p, unsigned width, size_t s)
     uint8_t a[SHARES] = {0}, b[SHARES] = {0}, random[SHARES * SHARES], c[SHARES];
     fill_below(1u << width, a, s);
     fill_below(1u << width, b, s);
-    fill_below(1u << width, random, pairs(s));
-    return p->product(width, s, a, SHARES, b, SHARES, random, pairs(s), c, SHARES) == 0
+    size_t n = random_bytes(width, pairs(s));
+    fill_below(random_bound(width), random, n);
+    return p->product(width, s, a, SHARES, b, SHARES, random, n, c, SHARES) == 0
         && join(c, SHARES, 1) == product_of(p, width, join(a, s, 1), join(b, s, 1));
 }
 
@@ -37,12 +38,12 @@ static int product_joins(const struct plain *p, unsigned width, size_t s)
 static int sbox_joins(const struct plain *p, unsigned width, size_t s, const uint8_t *record, const uint8_t *table)
 {
     struct sizes z = sizes_of(width);
-    size_t n = z.products * pairs(s);
+    size_t n = random_bytes(width, z.products * pairs(s));
     uint8_t shares[SHARES], random[5 * SHARES * SHARES], out[SHARES];
     for (size_t x = 0; x < z.elements; x++) {
         fill_below((uint32_t)z.elements, shares, s);
         shares[0] ^= join(shares, s, 1) ^ (uint8_t)x;
-        fill_below((uint32_t)z.elements, random, n);
+        fill_below(random_bound(width), random, n);
         if (p->sbox(record, z.record, s, shares, s, random, n, out, s) != 0 || join(out, s, 1) != table[x])
             return 0;
     }
@@ -97,13 +98,13 @@ static int present_vectors(const struct plain *p)
 // The vectors again, masked: a key and a block in random shares.
 static int block_vectors(const struct plain *p, size_t s, const uint8_t *record)
 {
-    static uint8_t random[527 * SHARES * (SHARES - 1)];
-    size_t n = 527 * s * (s - 1);
+    static uint8_t random[527 * SHARES * (SHARES - 1) / 2];
+    size_t n = random_bytes(4, 527 * s * (s - 1));
     for (size_t v = 0; v < 4; v++) {
         uint8_t key[10 * SHARES], block[8 * SHARES], out[8 * SHARES];
         fill_below(256, key, 10 * s);
         fill_below(256, block, 8 * s);
-        fill_below(16, random, n);
+        fill_below(256, random, n);
         for (size_t i = 0; i < 10; i++)
             key[i] ^= join(key + i, s, 10) ^ vectors[v].key;
         for (size_t i = 0; i < 8; i++)

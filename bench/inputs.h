@@ -25,6 +25,18 @@ static inline size_t pairs(size_t s)
     return s * (s - 1) / 2;
 }
 
+// How many bytes hold so many random elements: at width 4 two lie in each.
+static inline size_t random_bytes(unsigned width, size_t count)
+{
+    return width == 4 ? (count + 1) / 2 : count;
+}
+
+// Random bytes are below this.
+static inline uint32_t random_bound(unsigned width)
+{
+    return width == 4 ? 256 : 1u << width;
+}
+
 // A fixed sequence of numbers (xorshift).
 enum { FIRST_NUMBER = 463534242 };
 static uint32_t number = FIRST_NUMBER;

@@ -59,20 +59,32 @@ static refusal read_record(const uint8_t *record, size_t len, unsigned *width)
 
 // ---- the masked product
 
-// c becomes the product of a and b, of s shares. Returns the random elements that are left.
-INLINE const element *multiply(unsigned n, size_t s, const element *restrict a, const element *restrict b, const element *restrict random,
+// Random element number k: at width 4 two lie in a byte, the high nibble first.
+INLINE element draw(unsigned n, const uint8_t *restrict random, size_t k)
+{
+    return n == 4 ? (element)(random[k / 2] >> (k % 2 == 0 ? 4 : 0) & 15) : random[k];
+}
+
+// How many bytes hold so many random elements.
+INLINE size_t bytes_for(unsigned n, size_t count)
+{
+    return n == 4 ? (count + 1) / 2 : count;
+}
+
+// c becomes the product of a and b, of s shares, with the random elements from number k on. Returns the number of the next.
+INLINE size_t multiply(unsigned n, size_t s, const element *restrict a, const element *restrict b, const uint8_t *restrict random, size_t k,
     element *restrict c)
 {
     for (size_t i = 0; i < s; i++)
         c[i] = mul(n, a[i], b[i]);
     for (size_t i = 0; i < s; i++)
         for (size_t j = i + 1; j < s; j++) {
-            element r = *random++;
+            element r = draw(n, random, k++);
             element sum = r ^ mul(n, a[i], b[j]);
             c[i] ^= r;
             c[j] ^= sum ^ mul(n, a[j], b[i]);
         }
-    return random;
+    return k;
 }
 
 static refusal plain_product(unsigned width, size_t s, const uint8_t *a, size_t a_len, const uint8_t *b, size_t b_len,
@@ -82,13 +94,13 @@ static refusal plain_product(unsigned width, size_t s, const uint8_t *a, size_t 
         return 1;
     if (s < 1 || s > SHARES)
         return 7;
-    if (a_len != SHARES || b_len != SHARES || random_len != s * (s - 1) / 2 || out_len != SHARES)
+    if (a_len != SHARES || b_len != SHARES || random_len != bytes_for(width, s * (s - 1) / 2) || out_len != SHARES)
         return 2;
     element c[SHARES] = {0};
     if (width == 4)
-        multiply(4, s, a, b, random, c);
+        multiply(4, s, a, b, random, 0, c);
     else
-        multiply(6, s, a, b, random, c);
+        multiply(6, s, a, b, random, 0, c);
     memcpy(out, c, SHARES);
     return 0;
 }
@@ -103,9 +115,9 @@ INLINE void squares(unsigned n, size_t s, element powers[][SHARES], unsigned e, 
             powers[e + 1][i] = mul(n, powers[e][i], powers[e][i]);
 }
 
-// The S-box at width n of the sharing x. Returns the random elements that are left.
-INLINE const element *substitute(unsigned n, const uint8_t *restrict record, size_t s, const element *restrict x, const element *restrict random,
-    element *restrict out)
+// The S-box at width n of the sharing x, with the random elements from number next on. Returns the number of the one after them.
+INLINE size_t substitute(unsigned n, const uint8_t *restrict record, size_t s, const element *restrict x, const uint8_t *restrict random,
+    size_t next, element *restrict out)
 {
     enum { POLYNOMIALS = 2 * TERMS_6 - 1 };
     const unsigned coefficients = n == 4 ? COEFFICIENTS_4 : COEFFICIENTS_6, products = (n == 4 ? TERMS_4 : TERMS_6) - 1;
@@ -113,10 +125,10 @@ INLINE const element *substitute(unsigned n, const uint8_t *restrict record, siz
 
     memcpy(powers[1], x, s);
     squares(n, s, powers, 1, n);
-    random = multiply(n, s, powers[1], powers[2], random, powers[n + 1]);
+    next = multiply(n, s, powers[1], powers[2], random, next, powers[n + 1]);
     squares(n, s, powers, n + 1, 2 * n);
     if (n == 6) {
-        random = multiply(n, s, powers[7], powers[4], random, powers[13]);
+        next = multiply(n, s, powers[7], powers[4], random, next, powers[13]);
         squares(n, s, powers, 13, 18);
     }
     const uint8_t *polynomial = record + 6;
@@ -128,24 +140,24 @@ INLINE const element *substitute(unsigned n, const uint8_t *restrict record, siz
             values[k][i] = sum;
         }
     for (unsigned k = 0; k < products; k++)
-        random = multiply(n, s, values[products + k], values[k], random, product[k]);
+        next = multiply(n, s, values[products + k], values[k], random, next, product[k]);
     for (size_t i = 0; i < s; i++) {
         element sum = product[0][i];
         for (unsigned k = 1; k < products; k++)
             sum ^= product[k][i];
         out[i] = sum ^ values[2 * products][i];
     }
-    return random;
+    return next;
 }
 
-static const element *substitute_4(const uint8_t *record, size_t s, const element *x, const element *random, element *out)
+static size_t substitute_4(const uint8_t *record, size_t s, const element *x, const uint8_t *random, size_t next, element *out)
 {
-    return substitute(4, record, s, x, random, out);
+    return substitute(4, record, s, x, random, next, out);
 }
 
-static const element *substitute_6(const uint8_t *record, size_t s, const element *x, const element *random, element *out)
+static size_t substitute_6(const uint8_t *record, size_t s, const element *x, const uint8_t *random, size_t next, element *out)
 {
-    return substitute(6, record, s, x, random, out);
+    return substitute(6, record, s, x, random, next, out);
 }
 
 static refusal plain_sbox(const uint8_t *record, size_t record_len, size_t s, const uint8_t *shares, size_t shares_len,
@@ -157,14 +169,14 @@ static refusal plain_sbox(const uint8_t *record, size_t record_len, size_t s, co
         return r;
     if (s < 1 || s > SHARES)
         return 7;
-    if (shares_len != s || random_len != (width == 4 ? 2 : 5) * (s * (s - 1) / 2) || out_len != s)
+    if (shares_len != s || random_len != bytes_for(width, (width == 4 ? 2 : 5) * (s * (s - 1) / 2)) || out_len != s)
         return 2;
-    if (!all_below(1u << width, shares, s) || !all_below(1u << width, random, random_len))
+    if (!all_below(1u << width, shares, s) || (width != 4 && !all_below(1u << width, random, random_len)))
         return 3;
     if (width == 4)
-        substitute_4(record, s, shares, random, out);
+        substitute_4(record, s, shares, random, 0, out);
     else
-        substitute_6(record, s, shares, random, out);
+        substitute_6(record, s, shares, random, 0, out);
     return 0;
 }
 
@@ -284,14 +296,13 @@ static refusal plain_block(const uint8_t *record, size_t record_len, size_t s, c
         return 6;
     if (s < 1 || s > SHARES)
         return 7;
-    if (key_len != 10 * s || block_len != 8 * s || random_len != 527 * s * (s - 1) || out_len != 8 * s)
+    if (key_len != 10 * s || block_len != 8 * s || random_len != bytes_for(4, 527 * s * (s - 1)) || out_len != 8 * s)
         return 2;
-    if (!all_below(16, random, random_len))
-        return 3;
 
     uint64_t state[SHARES];
     key_register keys[SHARES];
     element x[SHARES], y[SHARES];
+    size_t next = 0;
     for (size_t i = 0; i < s; i++) {
         state[i] = load(block + 8 * i);
         keys[i] = load_key(key + 10 * i);
@@ -302,7 +313,7 @@ static refusal plain_block(const uint8_t *record, size_t record_len, size_t s, c
         for (unsigned m = 0; m < 16; m++) {
             for (size_t i = 0; i < s; i++)
                 x[i] = state[i] >> 4 * m & 15;
-            random = substitute_4(record, s, x, random, y);
+            next = substitute_4(record, s, x, random, next, y);
             for (size_t i = 0; i < s; i++)
                 state[i] = with_nibble(state[i], m, y[i]);
         }
@@ -312,7 +323,7 @@ static refusal plain_block(const uint8_t *record, size_t record_len, size_t s, c
             keys[i] = rotate(keys[i]);
             x[i] = (element)(keys[i].high >> 60);
         }
-        random = substitute_4(record, s, x, random, y);
+        next = substitute_4(record, s, x, random, next, y);
         for (size_t i = 0; i < s; i++)
             keys[i].high = with_nibble(keys[i].high, 15, y[i]);
         keys[0] = add_round_number(keys[0], round);
@@ -350,13 +361,13 @@ static const element *substitute_8(size_t s, const element *x, const element *ra
     square_all(s, p[0], p[1]);
     square_all(s, p[1], p[2]);
     square_all(s, p[2], p[3]);
-    random = multiply(8, s, x, p[3], random, p[4]);
+    random += multiply(8, s, x, p[3], random, 0, p[4]);
     square_all(s, p[4], p[5]);
     square_all(s, p[5], p[6]);
     square_all(s, p[6], p[7]);
-    random = multiply(8, s, p[3], p[5], random, p[8]);
-    random = multiply(8, s, p[8], p[6], random, p[9]);
-    random = multiply(8, s, p[9], p[7], random, p[10]);
+    random += multiply(8, s, p[3], p[5], random, 0, p[8]);
+    random += multiply(8, s, p[8], p[6], random, 0, p[9]);
+    random += multiply(8, s, p[9], p[7], random, 0, p[10]);
     for (size_t i = 0; i < s; i++)
         out[i] = linear_map(p[10][i]) ^ (i == 0 ? 0x63 : 0);
     return random;

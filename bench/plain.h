@@ -18,7 +18,8 @@ struct plain {
     // the compiler and its level of optimisation
     const char *name;
 
-    // The masked product of a and b. Sharings have nine bytes, 0 past the s shares in use; `random` has an element for each pair of shares.
+    // The masked product of a and b. Sharings have nine bytes, 0 past the s shares in use; `random` has an element for each
+    // pair of shares: at width 4 two in a byte, the high nibble first, else one.
     refusal (*product)(unsigned width, size_t s, const uint8_t *a, size_t a_len, const uint8_t *b, size_t b_len,
         const uint8_t *random, size_t random_len, uint8_t *out, size_t out_len);
 

@@ -66,9 +66,10 @@ void ll_fit(uint32_t width, const uint8_t *table, size_t table_len, const uint8_
 void ll_house_fit(const uint8_t *table, size_t table_len, uint8_t *work, size_t work_len,
     uint8_t *record, size_t record_len, uint64_t answer[4]);
 
-// S-box: the masked S-box that the record stands for, on an element in s shares. Shares and out have s bytes; random has s(s-1) bytes at
-// width 4 and 5s(s-1)/2 at width 6, an element each. Hands back products, random bytes and steps.
-// Refuses: as ll_read; 7 s not 1 to 9; 2 any length wrong; 3 an entry not below 2^n (shares, then random).
+// S-box: the masked S-box that the record stands for, on an element in s shares. Shares and out have s bytes; random has s(s-1)/2 bytes at
+// width 4, two elements each, the high nibble drawn first, and 5s(s-1)/2 at width 6, an element each. Hands back products, random bytes and
+// steps.
+// Refuses: as ll_read; 7 s not 1 to 9; 2 any length wrong; 3 an entry not below 2^n (shares, then, at width 6, random).
 void ll_sbox(const uint8_t *record, size_t record_len, uint32_t s, const uint8_t *shares, size_t shares_len,
     const uint8_t *random, size_t random_len, uint8_t *out, size_t out_len, uint64_t answer[4]);
 
@@ -80,9 +81,9 @@ void ll_sbox_watch(const uint8_t *record, size_t record_len, uint32_t s, const u
     const uint8_t *random, size_t random_len, const uint32_t *list, size_t list_len,
     uint8_t *values, size_t values_len, uint64_t answer[4]);
 
-// Block: masked PRESENT-80 of one block. Key shares have 10s bytes, block shares and out 8s, random 527s(s-1), an element below 16 each.
-// Hands back products, random bytes and steps.
-// Refuses: as ll_read; 1 width 6; 6 not PRESENT's table; 7 s not 1 to 9; 2 any length wrong; 3 an entry not below 16 (random).
+// Block: masked PRESENT-80 of one block. Key shares have 10s bytes, block shares and out 8s, random 527s(s-1)/2, two elements each, the high
+// nibble drawn first. Hands back products, random bytes and steps.
+// Refuses: as ll_read; 1 width 6; 6 not PRESENT's table; 7 s not 1 to 9; 2 any length wrong.
 void ll_block(const uint8_t *record, size_t record_len, uint32_t s, const uint8_t *key_shares, size_t key_shares_len,
     const uint8_t *block_shares, size_t block_shares_len, const uint8_t *random, size_t random_len,
     uint8_t *out, size_t out_len, uint64_t answer[4]);

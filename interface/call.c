@@ -44,15 +44,15 @@ static const uint8_t present_record[34] = {'D', 'C', 'P', 0, 1, 4, 0, 1, 1, 0, 0
 static const uint8_t identity_record_4[34] = {'D', 'C', 'P', 0, 1, 4, [25] = 1};
 static const uint8_t identity_record_6[140] = {'D', 'C', 'P', 0, 1, 6, [121] = 1};
 
-static uint8_t identity_table[65], fill[6145], elements[37945], random_bytes[28801], key_masks[128], block_masks[128];
+static uint8_t identity_table[65], fill[6145], nibbles[18973], random_bytes[28801], key_masks[128], block_masks[128];
 
 static void set_up(void)
 {
     memset(fill, FILL, sizeof fill);
     for (size_t i = 0; i < sizeof identity_table; i++)
         identity_table[i] = (uint8_t)i;
-    for (size_t i = 0; i < sizeof elements; i++)
-        elements[i] = (uint8_t)((7 * i + 3) % 16);
+    for (size_t i = 0; i < sizeof nibbles; i++)
+        nibbles[i] = (uint8_t)((14 * i + 3) % 16 * 16 + (14 * i + 10) % 16); // element k is 7 k + 3 modulo 16
     for (size_t i = 0; i < sizeof random_bytes; i++)
         random_bytes[i] = (uint8_t)(59 * i + i / 251 + 7);
     for (size_t i = 0; i < sizeof key_masks; i++)
@@ -366,10 +366,10 @@ static void test_house_fit(void)
 
 // ---- S-box and its watch
 
-enum { SBOX_PRODUCTS = 2, SBOX_RANDOM = 6, SBOX_STEPS = 213 }; // at width 4 with three shares
+enum { SBOX_PRODUCTS = 2, SBOX_RANDOM = 3, SBOX_STEPS = 213 }; // at width 4 with three shares
 
 // An element in three shares, random elements, and the shares that the S-box gives.
-static const uint8_t sbox_shares[4] = {2, 9, 15}, sbox_random[7] = {1, 2, 3, 4, 5, 6}, sbox_out[3] = {14, 5, 2};
+static const uint8_t sbox_shares[4] = {2, 9, 15}, sbox_random[4] = {0x12, 0x34, 0x56}, sbox_out[3] = {14, 5, 2};
 
 // The squares of the shares, as steps 0 to 2; the random elements, at the first step of each pair of the two masked products; the result.
 static const uint32_t sbox_list[14] = {0, 1, 2, 12, 19, 26, 189, 196, 203, 212, 211, 210, 0};
@@ -382,17 +382,20 @@ static void sbox_refusals(const struct operation *op, const struct slice *accept
     wrong_share_counts(op, accepted);
     wrong_lengths(op, 3, accepted);
 
-    uint8_t shares[3], random[6];
+    uint8_t shares[3], random[15];
     struct slice slices[SLICES];
     memcpy(slices, accepted, op->slices * sizeof *slices);
     slices[1] = bytes(shares, 3);
-    slices[2] = bytes(random, 6);
     memcpy(shares, sbox_shares, 3);
-    memcpy(random, sbox_random, 6);
-    random[5] = 255;
-    expect(op, "random element 255", 3, slices, refused(LL_TOO_LARGE, 8), NULL);
     shares[1] = 16;
-    expect(op, "share 16, random element 255", 3, slices, refused(LL_TOO_LARGE, 1), NULL);
+    expect(op, "share 16", 3, slices, refused(LL_TOO_LARGE, 1), NULL);
+    slices[0] = bytes(identity_record_6, 139);
+    slices[2] = bytes(random, 15);
+    memset(random, 63, 15);
+    random[5] = 64;
+    expect(op, "width 6, random element 64", 3, slices, refused(LL_TOO_LARGE, 8), NULL);
+    shares[2] = 255;
+    expect(op, "width 6, share 255, random element 64", 3, slices, refused(LL_TOO_LARGE, 2), NULL);
 }
 
 static void call_sbox(uint32_t number, void *const *at, const size_t *len, uint64_t *answer)
@@ -403,7 +406,7 @@ static void call_sbox(uint32_t number, void *const *at, const size_t *len, uint6
 static void test_sbox(void)
 {
     static const struct operation op = {"ll_sbox", 4, 1, call_sbox};
-    const struct slice slices[] = {bytes(present_record, 33), bytes(sbox_shares, 3), bytes(sbox_random, 6), space(3)};
+    const struct slice slices[] = {bytes(present_record, 33), bytes(sbox_shares, 3), bytes(sbox_random, SBOX_RANDOM), space(3)};
     expect(&op, "three shares", 3, slices, done(SBOX_PRODUCTS, SBOX_RANDOM, SBOX_STEPS), sbox_out);
     sbox_refusals(&op, slices);
 
@@ -416,8 +419,11 @@ static void test_sbox(void)
         const struct slice alone_null[] = {slices[0], bytes(one, 1), null(), space(1)};
         expect(&op, "one share, random NULL", 1, alone_null, done(2, 0, 57), present_table + x);
     }
-    const struct slice nine[] = {slices[0], bytes(identity_table, 9), bytes(elements, 72), space(9)};
-    expect_shared(&op, "nine shares", 9, nine, done(2, 72, 1017), present_table + (0 ^ 1 ^ 2 ^ 3 ^ 4 ^ 5 ^ 6 ^ 7 ^ 8));
+    static const uint8_t ones[SBOX_RANDOM] = {255, 255, 255};
+    const struct slice largest[] = {slices[0], slices[1], bytes(ones, SBOX_RANDOM), space(3)};
+    expect_shared(&op, "random bytes 255", 3, largest, done(SBOX_PRODUCTS, SBOX_RANDOM, SBOX_STEPS), present_table + (2 ^ 9 ^ 15));
+    const struct slice nine[] = {slices[0], bytes(identity_table, 9), bytes(nibbles, 36), space(9)};
+    expect_shared(&op, "nine shares", 9, nine, done(2, 36, 1017), present_table + (0 ^ 1 ^ 2 ^ 3 ^ 4 ^ 5 ^ 6 ^ 7 ^ 8));
     const struct slice wide[] = {bytes(identity_record_6, 139), bytes(identity_table + 61, 3), bytes(identity_table, 15), space(3)};
     const uint8_t value[] = {61 ^ 62 ^ 63};
     expect_shared(&op, "width 6", 3, wide, done(5, 15, 930), value);
@@ -432,7 +438,7 @@ static void test_sbox_watch(void)
 {
     static const struct operation op = {"ll_sbox_watch", 5, 1, call_sbox_watch};
     const struct answer counts = done(SBOX_PRODUCTS, SBOX_RANDOM, SBOX_STEPS);
-    struct slice slices[] = {bytes(present_record, 33), bytes(sbox_shares, 3), bytes(sbox_random, 6), numbers(sbox_list, 13), space(13)};
+    struct slice slices[] = {bytes(present_record, 33), bytes(sbox_shares, 3), bytes(sbox_random, SBOX_RANDOM), numbers(sbox_list, 13), space(13)};
     expect(&op, "thirteen steps", 3, slices, counts, sbox_values);
     sbox_refusals(&op, slices);
 
@@ -455,7 +461,7 @@ static void test_sbox_watch(void)
 
 // ---- Block and its watch
 
-enum { BLOCK_PRODUCTS = 1054, BLOCK_RANDOM = 3162, BLOCK_STEPS = 117197 }; // with three shares
+enum { BLOCK_PRODUCTS = 1054, BLOCK_RANDOM = 1581, BLOCK_STEPS = 117197 }; // with three shares
 
 // The published vectors: key, block, ciphertext.
 static const struct {
@@ -505,19 +511,11 @@ static void block_refusals(const struct operation *op, const struct slice *accep
     memcpy(slices, accepted, op->slices * sizeof *slices);
     slices[0] = bytes(identity_record_6, 139);
     expect(op, "width 6", 3, slices, refused(LL_WIDTH, 0), NULL);
-    uint8_t record[33], random[BLOCK_RANDOM];
+    uint8_t record[33];
     memcpy(record, present_record, sizeof record);
     record[25] ^= 1; // its table differs from PRESENT's, though not at 0
     slices[0] = bytes(record, sizeof record);
     expect(op, "another table", 3, slices, refused(LL_OTHER_TABLE, 0), NULL);
-
-    memcpy(random, elements, sizeof random);
-    slices[0] = accepted[0];
-    slices[3] = bytes(random, sizeof random);
-    random[3161] = 16;
-    expect(op, "random element 16", 3, slices, refused(LL_TOO_LARGE, 3161), NULL);
-    random[1000] = 255;
-    expect(op, "random elements 16 and 255", 3, slices, refused(LL_TOO_LARGE, 1000), NULL);
 }
 
 static void call_block(uint32_t number, void *const *at, const size_t *len, uint64_t *answer)
@@ -530,7 +528,7 @@ static void test_block(void)
     static const struct operation op = {"ll_block", 5, 1, call_block};
     const struct answer counts = done(BLOCK_PRODUCTS, BLOCK_RANDOM, BLOCK_STEPS);
     uint8_t key[91] = {0}, block[73] = {0};
-    struct slice slices[] = {bytes(present_record, 33), bytes(key, 30), bytes(block, 24), bytes(elements, BLOCK_RANDOM), space(24)};
+    struct slice slices[] = {bytes(present_record, 33), bytes(key, 30), bytes(block, 24), bytes(nibbles, BLOCK_RANDOM), space(24)};
     share(0xff, 10, 3, key_masks, key);
     share(0x00, 8, 3, block_masks, block);
     expect(&op, "three shares", 3, slices, counts, block_out);
@@ -543,8 +541,8 @@ static void test_block(void)
     }
     share(0xff, 10, 9, key_masks, key);
     share(0xff, 8, 9, block_masks, block);
-    const struct slice nine[] = {slices[0], bytes(key, 90), bytes(block, 72), bytes(elements, 37944), space(72)};
-    expect_shared(&op, "nine shares", 9, nine, done(1054, 37944, 550673), vectors[3].ciphertext);
+    const struct slice nine[] = {slices[0], bytes(key, 90), bytes(block, 72), bytes(nibbles, 18972), space(72)};
+    expect_shared(&op, "nine shares", 9, nine, done(1054, 18972, 550673), vectors[3].ciphertext);
     struct slice one[] = {slices[0], bytes(zeros, 10), bytes(zeros, 8), space(0), space(8)};
     expect(&op, "one share, random empty", 1, one, done(1054, 0, 31729), vectors[0].ciphertext);
     one[3] = null();
@@ -575,7 +573,7 @@ static void test_block_watch(void)
         values[48 + k] = nibble(block, k) ^ nibble(key, k);
     }
     list[64] = 0;
-    struct slice slices[] = {bytes(present_record, 33), bytes(key, 30), bytes(block, 24), bytes(elements, BLOCK_RANDOM), //
+    struct slice slices[] = {bytes(present_record, 33), bytes(key, 30), bytes(block, 24), bytes(nibbles, BLOCK_RANDOM), //
         numbers(list, 64), space(64)};
     expect(&op, "64 steps", 3, slices, counts, values);
     block_refusals(&op, slices);
@@ -764,10 +762,10 @@ static void test_split(void)
     expect(&op, "one share, masks empty", 1, (struct slice[]){bytes(seven, 1), space(0), space(1)}, done(0, 0, 0), seven);
     expect(&op, "one share, masks NULL", 1, (struct slice[]){bytes(seven, 1), null(), space(1)}, done(0, 0, 0), seven);
     uint8_t long_shares[144];
-    share(0x5a, 16, 9, elements, long_shares);
+    share(0x5a, 16, 9, random_bytes, long_shares);
     uint8_t value[16];
     memset(value, 0x5a, 16);
-    const struct slice longest[] = {bytes(value, 16), bytes(elements, 128), space(144)};
+    const struct slice longest[] = {bytes(value, 16), bytes(random_bytes, 128), space(144)};
     expect(&op, "16 bytes in nine shares", 9, longest, done(0, 0, 0), long_shares);
     const struct slice too_long[] = {bytes(zeros, 17), bytes(zeros, 34), space(51)};
     expect(&op, "17 bytes", 3, too_long, refused(LL_LENGTH, 0), NULL);
@@ -793,7 +791,7 @@ static void test_join(void)
     expect(&op, "one share", 1, (struct slice[]){bytes(seven, 1), space(1)}, done(0, 0, 0), seven);
     uint8_t value[16], long_shares[144];
     memset(value, 0x5a, 16);
-    share(0x5a, 16, 9, elements, long_shares);
+    share(0x5a, 16, 9, random_bytes, long_shares);
     expect(&op, "16 bytes in nine shares", 9, (struct slice[]){bytes(long_shares, 144), space(16)}, done(0, 0, 0), value);
     expect(&op, "17 bytes", 3, (struct slice[]){bytes(zeros, 51), space(17)}, refused(LL_LENGTH, 0), NULL);
     expect(&op, "no bytes", 3, (struct slice[]){null(), null()}, refused(LL_LENGTH, 0), NULL);

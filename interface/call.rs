@@ -34,10 +34,6 @@ fn with(bytes: &[u8], place: usize, value: u8) -> Vec<u8> {
     changed
 }
 
-fn random_elements(count: usize) -> Vec<u8> {
-    (0..count).map(|i| ((7 * i + 3) % 16) as u8).collect()
-}
-
 fn random_bytes(count: usize) -> Vec<u8> {
     (0..count).map(|i| (59 * i + i / 251 + 7) as u8).collect()
 }
@@ -221,9 +217,9 @@ fn house_fit(c: &mut Calls) {
 
 /// An element in three shares, random elements, the shares that the S-box gives, and the counts.
 const SHARES: [u8; 3] = [2, 9, 15];
-const RANDOM: [u8; 6] = [1, 2, 3, 4, 5, 6];
+const RANDOM: [u8; 3] = [0x12, 0x34, 0x56];
 const SBOX_OUT: [u8; 3] = [14, 5, 2];
-const SBOX_COUNTS: Answer = [0, 2, 6, 213];
+const SBOX_COUNTS: Answer = [0, 2, 3, 213];
 
 fn sbox(c: &mut Calls) {
     let out = c.fills("three shares", 3, SBOX_COUNTS, |out| ll::sbox(&PRESENT_RECORD, 3, &SHARES, &RANDOM, out));
@@ -241,8 +237,8 @@ fn sbox(c: &mut Calls) {
     c.wrong_records(3, |record, out| ll::sbox(record, 3, &SHARES, &RANDOM, out));
     c.wrong_share_counts(3, |s, out| ll::sbox(&PRESENT_RECORD, s, &SHARES, &RANDOM, out));
     c.wrong_lengths([&PRESENT_RECORD, &SHARES, &RANDOM], 3, |[record, shares, random], out| ll::sbox(record, 3, shares, random, out));
-    c.refuses("share 16", 3, 3, 1, |out| ll::sbox(&PRESENT_RECORD, 3, &with(&SHARES, 1, 16), &with(&RANDOM, 5, 16), out));
-    c.refuses("random 16", 3, 3, 8, |out| ll::sbox(&PRESENT_RECORD, 3, &SHARES, &with(&RANDOM, 5, 16), out));
+    c.refuses("share 16", 3, 3, 1, |out| ll::sbox(&PRESENT_RECORD, 3, &with(&SHARES, 1, 16), &RANDOM, out));
+    c.refuses("random 64", 3, 3, 8, |out| ll::sbox(&identity_record(6), 3, &SHARES, &with(&[60; 15], 5, 64), out));
     let mut out = [FILL];
     let answer = by_hand(|a| unsafe { raw::ll_sbox(PRESENT_RECORD.as_ptr(), 33, 1, [4].as_ptr(), 1, null(), 0, out.as_mut_ptr(), 1, a) });
     c.answer("one share, random NULL", answer, done(2, 0, 57));
@@ -267,10 +263,10 @@ fn sbox_watch(c: &mut Calls) {
     });
     c.refuses("empty list", 13, 2, 0, |out| watch(&[], out));
     c.refuses("65 steps", 65, 2, 0, |out| watch(&[0; 65], out));
-    c.refuses("random 16", 13, 3, 8, |out| ll::sbox_watch(&PRESENT_RECORD, 3, &SHARES, &with(&RANDOM, 5, 16), &list, out));
+    c.refuses("random 64", 13, 3, 8, |out| ll::sbox_watch(&identity_record(6), 3, &SHARES, &with(&[60; 15], 5, 64), &list, out));
     c.refuses("step 213", 3, 8, 1, |out| watch(&[212, 213, u32::MAX], out));
     let answer = by_hand(|a| unsafe {
-        raw::ll_sbox_watch(PRESENT_RECORD.as_ptr(), 33, 3, SHARES.as_ptr(), 3, RANDOM.as_ptr(), 6, null(), 0, null_mut(), 0, a)
+        raw::ll_sbox_watch(PRESENT_RECORD.as_ptr(), 33, 3, SHARES.as_ptr(), 3, RANDOM.as_ptr(), 3, null(), 0, null_mut(), 0, a)
     });
     c.answer("NULL list", answer, SBOX_COUNTS);
 }
@@ -282,10 +278,10 @@ const VECTORS: [(u8, u8, u64); 4] = [
     (0x00, 0xff, 0xa112ffc72f68417b),
     (0xff, 0xff, 0x3333dcd3213210d2),
 ];
-const BLOCK_COUNTS: Answer = [0, 1054, 3162, 117197];
+const BLOCK_COUNTS: Answer = [0, 1054, 1581, 117197];
 
 fn block(c: &mut Calls) {
-    let random = random_elements(3162);
+    let random = random_bytes(1581);
     for (key, block, ciphertext) in VECTORS {
         let (key, block) = (share(&[key; 10], 3), share(&[block; 8], 3));
         let out = c.fills("vector", 24, BLOCK_COUNTS, |out| ll::block(&PRESENT_RECORD, 3, &key, &block, &random, out));
@@ -303,7 +299,6 @@ fn block(c: &mut Calls) {
     c.wrong_lengths([&PRESENT_RECORD, &key, &block, &random], 24, |[record, key, block, random], out| {
         ll::block(record, 3, key, block, random, out)
     });
-    c.refuses("random 16", 24, 3, 3161, |out| ll::block(&PRESENT_RECORD, 3, &key, &block, &with(&random, 3161, 16), out));
     let mut out = [FILL; 8];
     let answer = by_hand(|a| unsafe {
         raw::ll_block(PRESENT_RECORD.as_ptr(), 33, 1, [0; 10].as_ptr(), 10, [0; 8].as_ptr(), 8, null(), 0, out.as_mut_ptr(), 8, a)
@@ -313,7 +308,7 @@ fn block(c: &mut Calls) {
 }
 
 fn block_watch(c: &mut Calls) {
-    let (key, block, random) = (share(&[0xff; 10], 3), share(&[0; 8], 3), random_elements(3162));
+    let (key, block, random) = (share(&[0xff; 10], 3), share(&[0; 8], 3), random_bytes(1581));
     let watch = |list: &[u32], out: &mut [u8]| ll::block_watch(&PRESENT_RECORD, 3, &key, &block, &random, list, out);
 
     // The last 48 steps are the nibbles of the result, share by share; the first 16 those of share 0 after the first key addition.
@@ -335,10 +330,9 @@ fn block_watch(c: &mut Calls) {
     });
     c.refuses("empty list", 64, 2, 0, |out| watch(&[], out));
     c.refuses("65 steps", 65, 2, 0, |out| watch(&[0; 65], out));
-    c.refuses("random 16", 64, 3, 3161, |out| ll::block_watch(&PRESENT_RECORD, 3, &key, &block, &with(&random, 3161, 16), &list, out));
     c.refuses("step 117197", 3, 8, 1, |out| watch(&[117196, 117197, u32::MAX], out));
     let answer = by_hand(|a| unsafe {
-        raw::ll_block_watch(PRESENT_RECORD.as_ptr(), 33, 3, key.as_ptr(), 30, block.as_ptr(), 24, random.as_ptr(), 3162,
+        raw::ll_block_watch(PRESENT_RECORD.as_ptr(), 33, 3, key.as_ptr(), 30, block.as_ptr(), 24, random.as_ptr(), 1581,
             null(), 0, null_mut(), 0, a)
     });
     c.answer("NULL list", answer, BLOCK_COUNTS);

@@ -469,38 +469,45 @@ def house_fit_cases():
 # ----------------------------------------------------------- S-box, its watch
 
 
+def random_limit(width):
+    """Random bytes are below this: at width 4 each holds two elements, whatever it is."""
+    return 256 if width == 4 else 2**width
+
+
 def sbox_inputs(prng, record, s):
     """Record, s, shares, random: all that the S-box and its watch have in common."""
-    limit = 2 ** record[5]
-    return record, s, prng.elements(limit, s), prng.elements(limit, sbox_random(record[5], s))
+    width = record[5]
+    random = prng.elements(random_limit(width), sbox_random(width, s))
+    return record, s, prng.elements(2**width, s), random
 
 
 def sbox_special_inputs(prng, record, s):
     """Zeros and largest elements in shares and random."""
     width = record[5]
-    top, count = 2**width - 1, sbox_random(width, s)
+    limit, bound, count = 2**width, random_limit(width), sbox_random(width, s)
     yield record, s, bytes(s), bytes(count)
-    yield record, s, bytes([top]) * s, bytes([top]) * count
-    yield record, s, prng.elements(top + 1, s), bytes(count)
-    yield record, s, bytes(s), prng.elements(top + 1, count)
+    yield record, s, bytes([limit - 1]) * s, bytes([bound - 1]) * count
+    yield record, s, prng.elements(limit, s), bytes(count)
+    yield record, s, bytes(s), prng.elements(bound, count)
 
 
 def sbox_wrong_elements(prng, width):
-    """Elements too large at each place of shares and random."""
+    """Elements too large at each place of shares and, at width 6, of random."""
     limit = 2**width
     record = random_record(prng, width)
     for s in (1, 2, 3, 9):
         good = sbox_inputs(prng, record, s)
-        entries = good[2] + good[3]
-        places = range(len(entries)) if s < 4 else (0, 8, 9, 10, 50, len(entries) - 1)
+        entries, rest = (good[2], good[3]) if width == 4 else (good[2] + good[3], b"")
+        last = len(entries) - 1
+        places = range(last + 1) if s < 4 or width == 4 else (0, 8, 9, 10, 50, last)
         for k, place in enumerate(places):
             bad = put(entries, place, (limit, 255, large(prng, limit))[k % 3])
-            yield record, s, bad[:s], bad[s:]
+            yield record, s, bad[:s], bad[s:] + rest
         for _ in range(3):
             bad = entries
             for _ in range(2):
                 bad = put(bad, prng.below(len(bad)), large(prng, limit))
-            yield record, s, bad[:s], bad[s:]
+            yield record, s, bad[:s], bad[s:] + rest
 
 
 def sbox_wrong_counts(prng, record):
@@ -527,7 +534,7 @@ def sbox_cases():
     for x in range(16):
         masks = prng.elements(16, 2)
         shares = bytes([x ^ masks[0] ^ masks[1]]) + masks
-        yield house, 3, shares, prng.elements(16, 6), prng.pattern(3)
+        yield house, 3, shares, prng.bytes(3), prng.pattern(3)
 
     for width in WIDTHS:
         limit = 2**width
@@ -544,8 +551,10 @@ def sbox_cases():
             for place in (2, 3, 4):
                 for n in one_off(len(good[place])):
                     yield change_length(prng, good, place, n, limit)
-            # lengths of the other width
+            # lengths of the other width, and of one element a byte
             yield change_length(prng, good, 3, sbox_random(10 - width, s) + (s == 1), limit)
+            if width == 4 and s > 1:
+                yield change_length(prng, good, 3, s * (s - 1), limit)
         for n in (0, 2, 6, 8, 64, 192):
             yield (*sbox_inputs(prng, record, 3), prng.pattern(n))
         bad = (record, 3, b"\xff" * 3, b"\xff" * sbox_random(width, 3), prng.pattern(3))
@@ -653,7 +662,7 @@ def block_inputs(prng, record, s, key=None, block=None):
     """Record, s, key shares, block shares, random."""
     key_shares = prng.bytes(10 * s) if key is None else sharing(prng, key, s)
     block_shares = prng.bytes(8 * s) if block is None else sharing(prng, block, s)
-    return record, s, key_shares, block_shares, prng.elements(16, block_random(s))
+    return record, s, key_shares, block_shares, prng.bytes(block_random(s))
 
 
 def block_refused_early(prng, records):
@@ -673,13 +682,13 @@ def block_refused_early(prng, records):
         yield put(house, place, house[place] ^ 1 + prng.below(15)), 1, bytes(10), bytes(8), b""
     for record in (zero_record(4), full_record(4), random_record(prng, 4)):
         yield record, 1, bytes(10), bytes(8), b""
-        yield record, 10, b"", b"", b"\xff"  # 6 before 7, 2, 3
+        yield record, 10, b"", b"", b"\xff"  # 6 before 7 and 2
     for s in WRONG_SHARE_COUNTS:
         low = s % 256
         if low in (1, 2):
             yield (house, s, *block_inputs(prng, house, low)[2:])
         yield records[s % 9], s, b"", b"", b""
-    yield house, 0, bytes(10), bytes(8), b"\xff"  # 7 before 2 and 3
+    yield house, 0, bytes(10), bytes(8), b"\xff"  # 7 before 2
 
 
 def block_wrong_lengths(prng, records):
@@ -694,28 +703,25 @@ def block_wrong_lengths(prng, records):
             yield (*short[:4], b"\xff")
         else:
             yield (*short[:4], b"\x00")
-            yield (*short[:4], b"\xff")  # 2 before 3
+            yield (*short[:4], b"\xff")
         yield record, s, short[3], short[2], b""
     for s in (1, 2):
         good = block_inputs(prng, records[1], s)
         for place in (2, 3, 4):
             for n in one_off(len(good[place])):
-                yield change_length(prng, good, place, n, 16)
+                yield change_length(prng, good, place, n)
     three = block_inputs(prng, records[0], 3)
-    yield change_length(prng, three, 4, 3161)
-    yield change_length(prng, three, 4, 3163, 16)
-    two = block_inputs(prng, records[2], 2)
-    yield (*two[:4], put(two[4], 5, 255)[:-1])  # 2 before 3
+    for n in (1580, 1582, 3162):
+        yield change_length(prng, three, 4, n)
 
 
-def block_wrong_elements(prng, records):
-    for s, places in ((2, (0, 1, 2, 526, 527, 1052, 1053)), (3, (0, 3161))):
-        good = block_inputs(prng, records[s], s)
-        for k, place in enumerate(places):
-            yield (*good[:4], put(good[4], place, (16, 255, large(prng, 16))[k % 3]))
-    good = block_inputs(prng, records[0], 2)
-    for first, second in ((7, 700), (1, 2), (1000, 1053)):
-        yield (*good[:4], put(put(good[4], first, 16), second, 255))
+def block_any_bytes(prng, records):
+    """Single nibbles at the edges of the random bytes: no byte is too large."""
+    for s in (2, 3):
+        house, _, key, block, random = block_inputs(prng, records[s], s)
+        for place in (0, len(random) - 1):
+            for byte in (0x01, 0x10, 0x0F, 0xF0):
+                yield house, s, key, block, put(bytes(len(random)), place, byte)
 
 
 def block_cases():
@@ -732,7 +738,7 @@ def block_cases():
     for s in (2, 3):  # zeros and largest elements
         n = block_random(s)
         yield house, s, bytes(10 * s), bytes(8 * s), bytes(n), prng.pattern(8 * s)
-        yield house, s, b"\xff" * 10 * s, b"\xff" * 8 * s, b"\x0f" * n, prng.pattern(8 * s)
+        yield house, s, b"\xff" * 10 * s, b"\xff" * 8 * s, b"\xff" * n, prng.pattern(8 * s)
 
     for inputs in block_refused_early(prng, records):
         yield (*inputs, prng.pattern(8))
@@ -742,9 +748,7 @@ def block_cases():
         good = block_inputs(prng, house, s)
         for n in (0, 8 * s - 1, 8 * s + 1, 10 * s, 72):
             yield (*good, prng.pattern(n))
-    good = block_inputs(prng, house, 2)
-    yield (*good[:4], put(good[4], 0, 255), prng.pattern(15))  # 2 before 3
-    for inputs in block_wrong_elements(prng, records):
+    for inputs in block_any_bytes(prng, records):
         yield (*inputs, prng.pattern(8 * inputs[1]))
 
 
@@ -819,12 +823,9 @@ def block_watch_cases():
         steps = [prng.below(block_steps(1)) for _ in range(listed)]
         yield (*one, steps, prng.pattern(lent))
     yield (*one, [31729] * 65, prng.pattern(65))  # 2 before 8
-    for inputs in block_wrong_elements(prng, records):
-        yield (*inputs, [1, 0], prng.pattern(2))
-    two = block_inputs(prng, house, 2)
-    bad = (*two[:4], put(two[4], 8, 16))
-    yield (*bad, [0, 2**32 - 1], prng.pattern(2))  # 3 before 8
-    yield (*bad, [0], prng.pattern(2))  # 2 before 3
+    for inputs in block_any_bytes(prng, records):
+        steps = landmarks(prng, inputs[1])
+        yield (*inputs, steps, prng.pattern(len(steps)))
     for steps in late_lists(prng, block_steps(1)):
         yield (*one, steps, prng.pattern(len(steps)))
     for s in (2, 4):

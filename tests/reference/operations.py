@@ -35,6 +35,11 @@ LONGEST_VALUE = 16
 # ---------------------------------------------------------------------- S-box
 
 
+def tested_random(width, random):
+    """The bytes that may be too large: at width 4 none, as any two nibbles are elements."""
+    return [] if width == 4 else [random]
+
+
 def sbox_wrong(record, s, shares, random, more_lengths):
     """more_lengths(): what the call tests under 2 besides shares and random."""
     return (
@@ -42,7 +47,7 @@ def sbox_wrong(record, s, shares, random, more_lengths):
         or share_count_wrong(s)
         or lengths_differ((shares, s), (random, sbox_random(record[5], s)))
         or more_lengths()
-        or too_large(2 ** record[5], shares, random)
+        or too_large(2 ** record[5], shares, *tested_random(record[5], random))
     )
 
 
@@ -50,7 +55,7 @@ def sbox(record, s, shares, random, out):
     refusal = sbox_wrong(record, s, shares, random, lambda: lengths_differ((out, s)))
     if refusal:
         return refused(refusal, [out])
-    trace = Trace(random)
+    trace = Trace(record[5], random)
     result = masked_sbox(trace, record, list(shares))
     return done(trace.counts(), [result])
 
@@ -61,7 +66,7 @@ def sbox_watch(record, s, shares, random, steps, values):
     ) or no_such_step(steps, sbox_steps(record[5], s))
     if refusal:
         return refused(refusal, [values])
-    trace = Trace(random)
+    trace = Trace(record[5], random)
     masked_sbox(trace, record, list(shares))
     return done(trace.counts(), [watched(trace, steps)])
 
@@ -88,7 +93,6 @@ def block_wrong(record, s, key_shares, block_shares, random, more_lengths):
             (key_shares, 10 * s), (block_shares, 8 * s), (random, block_random(s))
         )
         or more_lengths()
-        or too_large(16, random)
     )
 
 
@@ -98,7 +102,7 @@ def block(record, s, key_shares, block_shares, random, out):
     )
     if refusal:
         return refused(refusal, [out])
-    trace = Trace(random)
+    trace = Trace(4, random)
     result = masked_block(trace, record, s, key_shares, block_shares)
     return done(trace.counts(), [result])
 
@@ -109,7 +113,7 @@ def block_watch(record, s, key_shares, block_shares, random, steps, values):
     ) or no_such_step(steps, block_steps(s))
     if refusal:
         return refused(refusal, [values])
-    trace = Trace(random)
+    trace = Trace(4, random)
     masked_block(trace, record, s, key_shares, block_shares)
     return done(trace.counts(), [watched(trace, steps)])
 
@@ -133,7 +137,7 @@ def aes_block(s, key_shares, block_shares, random, out):
     )
     if refusal:
         return refused(refusal, [out])
-    trace = Trace(random)
+    trace = Trace(8, random)
     result = masked_aes(trace, s, key_shares, block_shares)
     return done(trace.counts(), [result])
 
@@ -144,7 +148,7 @@ def aes_block_watch(s, key_shares, block_shares, random, steps, values):
     ) or no_such_step(steps, aes_steps(s))
     if refusal:
         return refused(refusal, [values])
-    trace = Trace(random)
+    trace = Trace(8, random)
     masked_aes(trace, s, key_shares, block_shares)
     return done(trace.counts(), [watched(trace, steps)])
 

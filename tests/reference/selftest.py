@@ -113,7 +113,7 @@ def test_checks_on_paper():
     same("(b)", product(4, 9, 9), 13)
     same("(c)", product(4, 15, 15), 10)
     same("(d)", product(6, 32, 32), 48)
-    result = masked_product(Trace([1, 2, 3]), 4, [1, 2, 0], [4, 0, 1])
+    result = masked_product(Trace(4, b"\x12\x30"), 4, [1, 2, 0], [4, 0, 1])
     same("(e)", result, [7, 10, 2])
     same("(e) joined", (add_up(result), product(4, 3, 5)), (15, 15))
     same("(f)", present.bit_target(4), 1)
@@ -121,7 +121,7 @@ def test_checks_on_paper():
     same("(h)", present.update_key(0, 1), 0xC0000000000000008000)
     same("(i)", evaluate(4, HOUSE_BASIS, 2), 9)
     for n, expected in ((4, 213), (6, 930)):
-        trace = Trace(bytes(sbox_random(n, 3)))
+        trace = Trace(n, bytes(sbox_random(n, 3)))
         masked_sbox(trace, random_record(Prng(1), n), [1, 2, 3])
         same("(j)", (len(trace.values), sbox_steps(n, 3)), (expected, expected))
     answer = house_fit(bytes(16), b"\x01" * 448, b"\x01" * 33)
@@ -133,7 +133,7 @@ def test_checks_on_paper():
 def test_edges():
     house = house_record(PRESENT_TABLE)
     for s, number in ((0, 7), (1, 0), (9, 0), (10, 7)):
-        shares, random, out = bytes(s), bytes(s * (s - 1)), b"\xee" * s
+        shares, random, out = bytes(s), bytes(s * (s - 1) // 2), b"\xee" * s
         same("S-box share count", sbox(house, s, shares, random, out).number, number)
         answer = sbox_watch(house, s, shares, random, [0], b"\xee")
         same("watch S-box share count", answer.number, number)
@@ -151,11 +151,11 @@ def test_edges():
     same("coefficient 16", read(bytes(coefficients)), (3, (20,), ()))
 
     out = b"\xee" * 24
-    for n, number in ((3161, 2), (3162, 0), (3163, 2)):
+    for n, number in ((1580, 2), (1581, 0), (1582, 2), (3162, 2)):
         answer = block(house, 3, bytes(30), bytes(24), bytes(n), out)
         same("random bytes of three shares", answer.number, number)
         same("unchanged if refused", answer.outputs[0] == out, number != 0)
-    inputs = house, 3, bytes(30), bytes(24), bytes(3162)
+    inputs = house, 3, bytes(30), bytes(24), bytes(1581)
     same("last step", block_watch(*inputs, [117196], b"\xee").number, 0)
     same("no step", block_watch(*inputs, [117196, 117197], b"\xee\xee").values, (1,))
     same("no step", block_watch(*inputs, [117197], b"\xee"), (8, (0,), (b"\xee",)))
@@ -255,7 +255,7 @@ def test_sbox():
             for x in range(2**n):
                 masks = prng.elements(2**n, s - 1)
                 shares = bytes([x ^ add_up(masks)]) + masks
-                random = prng.elements(2**n, sbox_random(n, s))
+                random = prng.elements(256 if n == 4 else 64, sbox_random(n, s))
                 answer = sbox(record, s, shares, random, b"\xee" * s)
                 same("S-box joined", add_up(answer.outputs[0]), table[x])
                 same("S-box counts", answer.values, counts)
@@ -265,8 +265,9 @@ def test_step_rules():
     """Some steps named by hand, with the shares they touch."""
     prng = Prng(4)
     record = random_record(prng, 4)
-    x, random = [3, 14, 8], prng.elements(16, 6)
-    trace = Trace(random)
+    x, packed = [3, 14, 8], prng.bytes(3)
+    random = [packed[0] >> 4, packed[0] & 15]
+    trace = Trace(4, packed)
     out = masked_sbox(trace, record, x)
     steps = list(zip(trace.values, trace.touched))
     square = [product(4, v, v) for v in x]
@@ -302,9 +303,9 @@ def test_block_totals():
     house = house_record(PRESENT_TABLE)
     rows = ["shares products random steps"]
     for s in SHARE_COUNTS:
-        trace = Trace(bytes(block_random(s)))
+        trace = Trace(4, bytes(block_random(s)))
         masked_block(trace, house, s, bytes(10 * s), bytes(8 * s))
-        same("block counts", trace.counts(), (1054, 527 * s * (s - 1), block_steps(s)))
+        same("block counts", trace.counts(), (1054, 527 * s * (s - 1) // 2, block_steps(s)))
         same("parts end", list(block_parts(s))[-1] + 16 * s, block_steps(s))
         same("shares touched", max(map(len, trace.touched)), min(s, 2))
         if s in (1, 3, 5):
@@ -312,14 +313,14 @@ def test_block_totals():
     same("cost table", rows, [
         "shares products random steps",
         "1 1054 0 31729",
-        "3 1054 3162 117197",
-        "5 1054 10540 232177",
+        "3 1054 1581 117197",
+        "5 1054 5270 232177",
     ])
     same("steps of an S-box", sbox_steps(4, 9), 7 * 81 + 50 * 9)
 
 
 def joined_block(prng, record, s, key, plain):
-    random = prng.elements(16, block_random(s))
+    random = prng.bytes(block_random(s))
     answer = block(
         record, s, sharing(prng, key, s), sharing(prng, plain, s), random, b"\xee" * 8 * s
     )
@@ -345,8 +346,8 @@ def test_watch():
     """A watch shows the trace, place by place."""
     prng = Prng(6)
     house = house_record(PRESENT_TABLE)
-    inputs = prng.bytes(20), prng.bytes(16), prng.elements(16, block_random(2))
-    trace = Trace(inputs[2])
+    inputs = prng.bytes(20), prng.bytes(16), prng.bytes(block_random(2))
+    trace = Trace(4, inputs[2])
     masked_block(trace, house, 2, *inputs[:2])
     total = len(trace.values)
     steps = [total - 1, 0, 5, 5, *[prng.below(total) for _ in range(60)]]
@@ -429,7 +430,7 @@ def test_aes_expansion():
     words = bytes.fromhex("".join(AES_WORDS))
     same("key expansion", bytes(sum(aes.expand(key), [])), words)
     for s in SHARE_COUNTS:
-        trace = Trace(prng.bytes(40 * aes_sbox_random(s)))
+        trace = Trace(8, prng.bytes(40 * aes_sbox_random(s)))
         keys = masked_expansion(trace, cut_bytes(sharing(prng, key, s), s))
         same("key expansion, masked", b"".join(map(join_all, keys)), words)
 
@@ -441,7 +442,7 @@ def test_aes_sbox():
         counts = 4, 2 * s * (s - 1), aes_sbox_steps(s)
         for x in range(256):
             masks = prng.bytes(s - 1)
-            trace = Trace(prng.bytes(aes_sbox_random(s)))
+            trace = Trace(8, prng.bytes(aes_sbox_random(s)))
             out = masked_aes_sbox(trace, [x ^ add_up(masks), *masks])
             same("AES S-box joined", add_up(out), aes.SBOX[x])
             same("AES S-box counts", trace.counts(), counts)
@@ -455,7 +456,7 @@ def end_of_product(values, first):
 def test_aes_sbox_steps():
     """The shares y, 1, 0; the squares of y are y^2, y^4, y^8 = 27 and y^16 = 94."""
     random = [7, 11, 13, *Prng(9).bytes(9)]
-    trace = Trace(random)
+    trace = Trace(8, random)
     out = masked_aes_sbox(trace, [2, 1, 0])
     values, touched = trace.values, trace.touched
     same("squares", values[:12], [4, 1, 0, 16, 1, 0, 27, 1, 0, 94, 1, 0])
@@ -491,7 +492,7 @@ class ThreeShares:
     def __init__(self, prng):
         key, plain, _ = next(aes.vectors())
         self.key_shares, self.block_shares = sharing(prng, key, 3), sharing(prng, plain, 3)
-        trace = Trace(prng.bytes(aes_random(3)))
+        trace = Trace(8, prng.bytes(aes_random(3)))
         self.out = masked_aes(trace, 3, self.key_shares, self.block_shares)
         self.values, self.touched = trace.values, trace.touched
 
@@ -563,7 +564,7 @@ def test_aes_last_round():
 def test_aes_totals():
     rows = []
     for s in SHARE_COUNTS:
-        trace = Trace(bytes(aes_random(s)))
+        trace = Trace(8, bytes(aes_random(s)))
         masked_aes(trace, s, bytes(16 * s), bytes(16 * s))
         same("AES counts", trace.counts(), (800, 400 * s * (s - 1), aes_steps(s)))
         same("parts end", list(aes_parts(s))[-1] + 16 * s, aes_steps(s))
@@ -611,7 +612,7 @@ def test_aes_watch():
     """A watch shows the trace, place by place."""
     prng = Prng(12)
     inputs = prng.bytes(32), prng.bytes(32), prng.bytes(aes_random(2))
-    trace = Trace(inputs[2])
+    trace = Trace(8, inputs[2])
     masked_aes(trace, 2, *inputs[:2])
     total = len(trace.values)
     steps = [total - 1, 0, 5, 5, *[prng.below(total) for _ in range(60)]]
@@ -628,7 +629,7 @@ def two_share_traces(record, secret):
     """The traces of all 4,096 choices of a two-share S-box at width 4."""
     for mask in range(16):
         for choice in range(256):
-            trace = Trace([choice >> 4, choice & 15])
+            trace = Trace(4, [choice])
             masked_sbox(trace, record, [secret ^ mask, mask])
             yield trace
 

@@ -9,11 +9,24 @@ from field import EXPONENTS, PRODUCT
 from present import ROUNDS, permute, rotate
 
 
+def elements_of(width, random):
+    """The random elements in bytes: at width 4 two in each, the high nibble first."""
+    if width != 4:
+        return list(random)
+    return [nibble for byte in random for nibble in divmod(byte, 16)]
+
+
+def bytes_for(width, count):
+    """How many bytes hold so many elements."""
+    return (count + 1) // 2 if width == 4 else count
+
+
 class Trace:
     """Records the steps of one run and deals out its random elements."""
 
-    def __init__(self, random):
-        self.random = random
+    def __init__(self, width, random):
+        self.width = width
+        self.random = elements_of(width, random)
         self.values = []  # of each step, the element
         self.touched = []  # of each step, the shares, as a tuple
         self.drawn = 0
@@ -29,15 +42,15 @@ class Trace:
         return self.random[self.drawn - 1]
 
     def counts(self):
-        return self.products, self.drawn, len(self.values)
+        return self.products, bytes_for(self.width, self.drawn), len(self.values)
 
 
 # ----------------------------------------------------------- what a run takes
 
 
 def sbox_random(width, s):
-    """Random elements of one S-box."""
-    return s * (s - 1) if width == 4 else 5 * s * (s - 1) // 2
+    """Random bytes of one S-box."""
+    return bytes_for(width, (2 if width == 4 else 5) * s * (s - 1) // 2)
 
 
 def sbox_steps(width, s):
@@ -47,7 +60,8 @@ def sbox_steps(width, s):
 
 
 def block_random(s):
-    return 527 * s * (s - 1)
+    """Random bytes of one block."""
+    return bytes_for(4, 527 * s * (s - 1))
 
 
 def block_steps(s):

@@ -9,12 +9,12 @@ use lib.ListN.{length}
 use Rattle.xor.specs.Sum.{Small}
 use Rattle.refusal.specs.Outcome.{done}
 use Rattle.steps.specs.Tape.{elements}
+use Rattle.steps.specs.Alike.{SameLengths}
 use Rattle.steps.specs.Call.{figuresOf}
 use Rattle.steps.proofs.Tape.{elements-bytes}
 use Rattle.steps.proofs.Call.{counts-taken, HandsBack, call-answers, call-figures}
 use Rattle.steps.proofs.Call as call
 use Rattle.aes.specs.Figures.{figures}
-use Rattle.aes.specs.Alike.{SameLengths}
 use Rattle.aes.specs.Operations.{blockCall, callTests, blockOutcome, watchOutcome}
 use Rattle.aes.proofs.Calls.{tests-passed, call-takes}
 

@@ -1,5 +1,5 @@
 -- The laws of calls: the arguments that pass the tests, and what a run hands back and writes.
-use mathlib.Core.Path.{_≡_, ap}
+use mathlib.Core.Path.{_≡_, refl, ap}
 use mathlib.Core.Bool.{Bool, true, _&&_, and-eq-true-iff}
 use mathlib.Core.List.{List, [], _∷_}
 use Prim.Native.Nat.{ℕ, _*_, _≤_, _<_}
@@ -15,7 +15,7 @@ use Rattle.refusal.proofs.Outcome.{passed}
 use Rattle.refusal.proofs.Range.{one-to-range}
 use Rattle.steps.specs.declared.counts.Counts.{Counts}
 use Rattle.steps.specs.Fill.{tabulate}
-use Rattle.steps.specs.Tape.{elements, bytesFor}
+use Rattle.steps.specs.Tape.{elements, bytesFor, Full}
 use Rattle.steps.specs.Operations.{joinShares}
 use Rattle.steps.specs.Machine.{zeroCounts, Ready, Went, Whole}
 use Rattle.steps.specs.Call.{callCounts, Takes}
@@ -30,6 +30,11 @@ use Rattle.aes.proofs.Theorems.{takes}
 few-taken : (s : ℕ) → s ≤ 9 → (blockProducts < 2000) × (blockDraws s < 40000) × (blockSteps s < 1000000)
 unfolding blockProducts blockDraws blockSteps
 few-taken s h = (omega arith, omega (arith, few-pairs h), omega (arith, few-pairs h))
+
+-- no random byte has room for more elements
+pub block-full : (s : ℕ) → Full 8 (blockDraws s)
+unfolding bytesFor
+block-full s = refl
 
 -- ---- a call that passes the tests
 

@@ -1,4 +1,4 @@
--- TO COUNT TAPES IS TO COUNT CALLS. The tapes that `choices` counts are those of the choices, one to one (crates/steps/proofs/Chosen.antt), and each
+-- TO COUNT TAPES IS TO COUNT CALLS. The tapes that `choices` counts are those of the choices, one to one, and each
 -- with a key and a block settles one call (crates/steps/proofs/Settled.antt). Watch AES block accepts it, with any list of up to 64 step numbers, and
 -- writes the values that are counted: those of the experiment on this tape.
 use mathlib.Core.Path.{_≡_, sym, ap, _∙_}
@@ -8,13 +8,26 @@ use lib.ListN.{length, getD}
 use Rattle.refusal.specs.Outcome.{done}
 use Rattle.steps.specs.Program.{trace}
 use Rattle.steps.specs.Watch.{watched}
-use Rattle.steps.specs.Settled.{Chosen, Settles, Settled}
+use Rattle.steps.specs.Choices.{Fits}
+use Rattle.steps.specs.Tape.{elements}
+use Rattle.steps.specs.Settled.{Choice, choiceBits, masksThen, Chosen, Settles, Settled}
+use Rattle.steps.proofs.Chosen.{choice-tape, tape-choice}
 use Rattle.rijndael.specs.Experiment.{Plain}
 use Rattle.aes.specs.Figures.{figures, blockSteps}
 use Rattle.aes.specs.Experiment.{experiment, blockInputs}
 use Rattle.aes.specs.Operations.{watchOutcome, watchOutput}
+use Rattle.aes.proofs.Calls.{block-full}
 use Rattle.aes.proofs.Watched.{watch-shows}
 use Rattle.aes.proofs.Settles.{watch-accepted}
+
+-- ONE TO ONE. The random elements fill their bytes, so a choice has an element for each draw and fits the draws,
+pub choice-taped : (s : ℕ) (masks : List (List ℕ)) (random : List ℕ) → Choice (blockInputs s) masks random
+    → let tape = masksThen masks (elements 8 random) in let bits = choiceBits (blockInputs s) in (length tape ≡ length bits) × Fits bits tape
+choice-taped s = choice-tape (blockInputs s) (block-full s)
+
+-- and each such tape is that of a choice; of no other (`chosen-once`).
+pub tape-chosen : (s : ℕ) (tape : List ℕ) → let bits = choiceBits (blockInputs s) in length tape ≡ length bits → Fits bits tape → Chosen (blockInputs s) tape
+tape-chosen s = tape-choice (blockInputs s) (block-full s)
 
 pub tape-watched : (s : ℕ) → 0 < s → s ≤ 9 → (x : Plain) {tape key block : List ℕ}
     → (c : Chosen (blockInputs s) tape) → Settles (blockInputs s .secrets) (x .key ∷ x .block ∷ []) (c .masks) (key ∷ block ∷ [])

@@ -10,7 +10,6 @@ use Rattle.refusal.specs.Outcome.{Outcome, done, refused, test, andThen}
 use Rattle.refusal.specs.Range.{oneTo}
 use Rattle.refusal.specs.Large.{firstLarge, testBelow}
 use Rattle.refusal.specs.Watch.{listFits, testSteps}
-use Rattle.steps.specs.Tape.{elements}
 use Rattle.steps.specs.Call.{Call, callCounts}
 use Rattle.steps.specs.Call as call
 use Rattle.steps.specs.Operations.{splitLengths, splitOutcome, joinLengths, joinOutcome}
@@ -89,7 +88,7 @@ sbox-tests-told r s shares random fits =
     told-then (readOutcome r) (sbox.argumentTests n s shares random fits) (read-told r)
     (told-test (oneTo 9 s) 7 0 _ (omega arith)
     (told-test (sbox.sboxLengths n s (length shares) (length random) fits) 2 0 _ (omega arith)
-    (told-below (2 ^ n) 0 (shares ++ elements n random) (done (n ∷ [])) tt)))
+    (told-below (2 ^ n) 0 (shares ++ sbox.testedRandom n random) (done (n ∷ [])) tt)))
 
 pub sbox-told : (r : List ℕ) (s : ℕ) (shares random : List ℕ) (out : ℕ) → Told (sbox.sboxOutcome r s shares random out)
 unfolding sbox.sboxOutcome sbox.sboxCall
@@ -112,8 +111,7 @@ unfolding cipher.callTests cipher.argumentTests
 block-tests-told r s key block random fits =
     told-then (cipher.recordTests r) (cipher.argumentTests s key block random fits) (record-told r)
     (told-test (oneTo 9 s) 7 0 _ (omega arith)
-    (told-test (cipher.blockLengths s (length key) (length block) (length random) fits) 2 0 _ (omega arith)
-    (told-below 16 0 (elements 4 random) (done []) tt)))
+    (told-test (cipher.blockLengths s (length key) (length block) (length random) fits) 2 0 (done []) (omega arith) tt))
 
 pub block-told : (r : List ℕ) (s : ℕ) (key block random : List ℕ) (out : ℕ) → Told (cipher.blockOutcome r s key block random out)
 unfolding cipher.blockOutcome cipher.blockCall

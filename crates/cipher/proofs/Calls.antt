@@ -2,11 +2,11 @@
 use mathlib.Core.Path.{_≡_, refl, sym, ap, _∙_}
 use mathlib.Core.Bool.{Bool, true, false, and-eq-true-iff}
 use mathlib.Core.List.{List, [], _∷_}
-use Prim.Native.Nat.{ℕ, _+_, _*_, _≤_, _<_}
+use Prim.Native.Nat.{ℕ, _+_, _-_, _*_, _/_, _≤_, _<_}
 use native.Mathlib.Nat.{mul-le-mul}
 use native.Mathlib.Omega.{arith}
-use borrow.Author.Tests.{eqb-true, eq-eqb, leb-true}
-use lib.Dec.{leb, eqb}
+use borrow.Author.Tests.{eqb-true, eq-eqb}
+use lib.Dec.{eqb}
 use lib.ListN.{length, drop}
 use Rattle.xor.specs.Sum.{join, Small}
 use Rattle.xor.proofs.Sum.{small-drop}
@@ -15,13 +15,13 @@ use Rattle.refusal.specs.Range.{oneTo}
 use Rattle.refusal.specs.Large.{firstLarge}
 use Rattle.refusal.proofs.Outcome.{passed, then-passed}
 use Rattle.refusal.proofs.Range.{one-to-range}
-use Rattle.refusal.proofs.Large.{all-small}
 use Rattle.field.proofs.Polynomial.{length-exponents-4}
 use Rattle.steps.specs.declared.counts.Counts.{Counts}
 use Rattle.steps.specs.Sharing.{share}
-use Rattle.steps.specs.Tape.{elements, bytesFor}
+use Rattle.steps.specs.Tape.{elements, bytesFor, Full}
 use Rattle.steps.specs.Machine.{zeroCounts, Ready, Went, Whole}
 use Rattle.steps.specs.Call.{callCounts, callResult, Takes}
+use Rattle.steps.proofs.Tape.{elements-nibbles}
 use Rattle.steps.proofs.Call as call
 use Rattle.steps.proofs.Fill.{tabulate-same}
 use Rattle.decomposition.specs.Layout.{layout, sized, termsOf}
@@ -40,7 +40,7 @@ use Rattle.cipher.specs.Experiment.{PresentRecord}
 use Rattle.cipher.specs.Figures.{blockProducts, blockDraws, blockSteps}
 use Rattle.cipher.proofs.Theorems.{takes}
 use Rattle.cipher.specs.Operations.{callProgram, blockCall, computesTable, recordTests, blockLengths, argumentTests, callTests, blockOutput, watchOutput, Callable}
-use Rattle.product.proofs.Counts.{few-pairs}
+use Rattle.product.proofs.Counts.{few-pairs, pairs-twice}
 
 -- ---- numbers stay small
 
@@ -50,6 +50,22 @@ few-squares h = mul-le-mul {n₂ = 9} {m₂ = 9} h h
 few-taken : (s : ℕ) → s ≤ 9 → (blockProducts < 2000) × (blockDraws s < 40000) × (blockSteps s < 1000000)
 unfolding blockProducts blockDraws blockSteps
 few-taken s h = (omega arith, omega (arith, few-pairs h), omega (arith, few-squares h))
+
+-- ---- in bytes
+
+-- THE RANDOM BYTES of a call: two elements fill each,
+pub block-bytes : (s : ℕ) → bytesFor 4 (blockDraws s) ≡ 527 * (s * (s - 1) / 2)
+unfolding bytesFor blockDraws
+block-bytes s = omega (arith, pairs-twice s)
+
+-- and none has room for more.
+pub block-full : (s : ℕ) → Full 4 (blockDraws s)
+unfolding bytesFor blockDraws
+block-full s =
+    let k = 527 * (s * (s - 1) / 2) in
+    let even : 527 * (s * (s - 1)) ≡ k * 2 = omega (arith, pairs-twice s) in
+    let full : (k * 2 + 1 + 1) / 2 ≡ (k * 2 + 1) / 2 + 1 = omega arith in
+    rw even full
 
 -- ---- the test of the table
 
@@ -76,15 +92,6 @@ present-record r e =
     let four : widthOf r ≡ 4 = eqb-true (widthOf r) 4 (b .0) in
     let read : readOutcome r ≡ done (4 ∷ []) = a .1 ∙ ap done (sym (read-values r (a .1) .1) ∙ ap (λ (n : ℕ). n ∷ []) four) in
     record { read = read; checked = check-tests r read ∙ ap (λ (b : Bool). test b 6 (firstDifference (recordForm (layout 4) r) table) (done [])) (c .0) }
-
--- where the tests of a record are passed nothing is handed on
-pub record-passed : (r : List ℕ) {numbers : List ℕ} → recordTests r ≡ done numbers → recordTests r ≡ done []
-unfolding recordTests
-record-passed r e =
-    let a = then-passed (readOutcome r) _ e in
-    let b = passed (eqb (widthOf r) 4) 1 0 _ (a .2) in
-    let c = passed (computesTable r) 6 0 _ (b .1) in
-    e ∙ sym (c .1)
 
 -- a record that Read accepts with width 4 and Check with PRESENT's table passes the tests of Block
 pub present-passes : (r : List ℕ) → PresentRecord r → recordTests r ≡ done []
@@ -121,8 +128,6 @@ tests-passed r s key block random fits e =
     let f = passed (oneTo 9 s) 7 0 _ (a .2) in
     let g = passed (blockLengths s (length key) (length block) (length random) fits) 2 0 _ (f .1) in
     let lengths = call-lengths s (length key) (length block) (length random) fits (g .0) in
-    let l = elements 4 random in
-    let k = passed (leb (length l) (firstLarge 16 l)) 3 (0 + firstLarge 16 l) _ (g .1) in
     let range = one-to-range 9 s (f .0) in (
       record {
         present = present-record r (a .1);
@@ -131,7 +136,6 @@ tests-passed r s key block random fits e =
         key-length = lengths .0;
         block-length = lengths .1;
         random-length = lengths .2;
-        random-small = all-small 16 l (omega arith) (leb-true (length l) (firstLarge 16 l) (k .0));
       },
       lengths .3,
     )
@@ -149,26 +153,26 @@ module _ {r : List ℕ} {s : ℕ} {key block random : List ℕ} (a : Callable r 
   record-room = omega (arith, accepted .whole, length-exponents-4)
 
   -- the S-box takes sharings of nibbles to sharings of nibbles
-  pub call-closed : Closed s (elements 4 random) (recordSbox s r)
-  call-closed =
+  pub call-closed : Small 8 random → Closed s (elements 4 random) (recordSbox s r)
+  call-closed hr =
       let tape = elements 4 random in
       let coefficients = accepted-record 4 r accepted in
-      let small : (d : ℕ) → Small 4 (drop d tape) = λ d. small-drop 4 d tape (a .random-small) in
+      let small : (d : ℕ) → Small 4 (drop d tape) = λ d. small-drop 4 d tape (elements-nibbles random hr) in
       record {
         places = λ x d h. result-places coefficients s (join x) x (drop d tape) (a .some) (a .nine) h (small d);
         nibbles = λ x d h. let k = result-sharing coefficients s (join x) x (drop d tape) (a .some) (a .nine) h (small d) in
             record { small = k .small; past = k .past; joins = refl };
       }
 
-  -- what a call takes, of shares that are bytes
-  module _ (hk : Small 8 key) (hb : Small 8 block) where
+  -- what a call takes, of shares and random elements that lie in bytes
+  module _ (hk : Small 8 key) (hb : Small 8 block) (hr : Small 8 random) where
     pub call-takes : Takes (callProgram r s key block) (elements 4 random) blockProducts (blockDraws s) (blockSteps s)
     unfolding callProgram
     call-takes =
         let ks = sharesOf 10 s key in
         let xs = sharesOf 8 s block in
         takes r (a .present) s (a .some) (a .nine) (join ks) (join xs) ks xs (elements 4 random) (shares-sharing 10 s key hk)
-        (shares-sharing 8 s block hb) (a .random-small)
+        (shares-sharing 8 s block hb) (elements-nibbles random hr)
 
     -- it may run
     pub call-ready : {watch vs : List ℕ} → length watch ≡ length vs → Ready (elements 4 random) watch (callProgram r s key block) zeroCounts vs

@@ -8,7 +8,7 @@ use native.Mathlib.Omega.{arith}
 use lib.ListN.{length}
 use Rattle.xor.specs.Sum.{Small}
 use Rattle.refusal.specs.Outcome.{done}
-use Rattle.steps.specs.Tape.{elements, bytesFor}
+use Rattle.steps.specs.Tape.{bytesFor}
 use Rattle.steps.specs.Operations.{splitShares}
 use Rattle.steps.proofs.Operations.{join-accepts, split-length, split-accepted, split-joined}
 use Rattle.present.specs.Present.{size80, encrypt}
@@ -25,7 +25,7 @@ pub chained : (r : List ℕ) (s : ℕ) → recordTests r ≡ done [] → 0 < s �
     → (key block key-masks block-masks random : List ℕ) → length key ≡ 10 → length block ≡ 8
     → length key-masks ≡ (s - 1) * 10 → length block-masks ≡ (s - 1) * 8
     → Small 8 key → Small 8 block → Small 8 key-masks → Small 8 block-masks
-    → length random ≡ bytesFor 4 (blockDraws s) → Small 4 (elements 4 random)
+    → length random ≡ bytesFor 4 (blockDraws s) → Small 8 random
     → Chained r s key block key-masks block-masks random
 chained r s tests some nine key block km bm random lk lb lkm lbm hk hb hkm hbm lr hr =
     let ks = splitShares s key km in
@@ -35,15 +35,15 @@ chained r s tests some nine key block km bm random lk lb lkm lbm hk hb hkm hbm l
     let written = enciphered r s key block km bm random in
     let size : length written ≡ 8 * s = output-length r s ks xs random in
     let answer : blockOutcome r s ks xs random (8 * s) ≡ done (figures s) =
-    block-accepts r s tests some nine ks xs random sk sx
+    block-accepts r s tests some nine ks xs random sk sx hr
     (split-length 10 s some key km lk lkm ∙ mul-comm s 10)
-    (split-length 8 s some block bm lb lbm ∙ mul-comm s 8) lr hr in
+    (split-length 8 s some block bm lb lbm ∙ mul-comm s 8) lr in
     record {
       split-key-done = split-accepted 10 s some key km lk lkm nine (omega arith) (omega arith);
       split-block-done = split-accepted 8 s some block bm lb lbm nine (omega arith) (omega arith);
       block-done = ap (blockOutcome r s ks xs random) size ∙ answer;
       join-done = join-accepts (length written) s 8 some nine (omega arith) (omega arith) (size ∙ mul-comm 8 s);
-      join-writes = join-ciphertext r s ks xs random (8 * s) sk sx answer
+      join-writes = join-ciphertext r s ks xs random (8 * s) sk sx hr answer
           ∙ ap₂ (λ (k x : List ℕ). toBytes 8 (encrypt size80 (fromBytes k) (fromBytes x)))
           (split-joined 10 s some key km lk lkm) (split-joined 8 s some block bm lb lbm);
     }

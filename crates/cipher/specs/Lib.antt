@@ -3,5 +3,4 @@ pub mod Rounds
 pub mod Figures
 pub mod Experiment
 pub mod Operations
-pub mod Alike
 pub mod Chain

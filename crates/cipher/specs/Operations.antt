@@ -5,16 +5,14 @@ use mathlib.Core.List.{List, [], _∷_}
 use Prim.Native.Nat.{ℕ, _*_, _≤_, _<_}
 use lib.Dec.{leb, eqb}
 use lib.ListN.{length}
-use Rattle.xor.specs.Sum.{Small}
 use Rattle.refusal.specs.Outcome.{Outcome, done, refused, test, andThen}
 use Rattle.refusal.specs.Range.{oneTo}
-use Rattle.refusal.specs.Large.{testBelow}
 use Rattle.steps.specs.Program.{Run}
 use Rattle.steps.specs.Call.{Call, callOutcome, callResult}
 use Rattle.steps.specs.Call as call
 use Rattle.steps.specs.Sharing.{share}
 use Rattle.steps.specs.Fill.{tabulate}
-use Rattle.steps.specs.Tape.{elements, bytesFor}
+use Rattle.steps.specs.Tape.{bytesFor}
 use Rattle.decomposition.specs.Layout.{layout}
 use Rattle.decomposition.specs.Record.{widthOf, readOutcome}
 use Rattle.decomposition.specs.Check.{recordForm, firstDifference}
@@ -54,14 +52,12 @@ recordTests r =
 unfoldable pub blockLengths : ℕ → ℕ → ℕ → ℕ → Bool → Bool
 blockLengths s key block random fits = eqb key (10 * s) && (eqb block (8 * s) && (eqb random (bytesFor 4 (blockDraws s)) && fits))
 
--- those of the arguments, `fits` saying whether what is lent for output has its length: 7 a share count not 1 to 9; 2 a length;
--- 3 a random element too large, its place that among the random elements
+-- those of the arguments, `fits` saying whether what is lent for output has its length: 7 a share count not 1 to 9; 2 a length
 unfoldable pub argumentTests : ℕ → List ℕ → List ℕ → List ℕ → Bool → Outcome
 argumentTests s key block random fits =
     test (oneTo 9 s) 7 0
     (test (blockLengths s (length key) (length block) (length random) fits) 2 0
-    (testBelow 16 0 (elements 4 random)
-    (done [])))
+    (done []))
 
 -- those of the record come first
 unfoldable pub callTests : List ℕ → ℕ → List ℕ → List ℕ → List ℕ → Bool → Outcome
@@ -124,4 +120,3 @@ pub record Callable (r : List ℕ) (s : ℕ) (key block random : List ℕ) : Typ
   pub key-length : length key ≡ 10 * s
   pub block-length : length block ≡ 8 * s
   pub random-length : length random ≡ bytesFor 4 (blockDraws s)
-  pub random-small : Small 4 (elements 4 random)

@@ -3,8 +3,6 @@ ghost use mathlib.Core.Path.{_≡_};
 ghost use mathlib.Core.List.{[], _∷_};
 ghost use Prim.Native.Nat.{_<_, _≤_};
 ghost use Rattle.refusal.specs.Outcome.{done, refused};
-ghost use Rattle.refusal.specs.Large.{testBelow};
-ghost use Rattle.steps.specs.Tape.{elements};
 ghost use Rattle.decomposition.specs.Record.{readOutcome};
 ghost use Rattle.cipher.specs.Operations.{testedReport, recordTests, blockLengths, argumentTests, callTests};
 use crate::figures::draw_count;
@@ -14,8 +12,6 @@ use decomposition::check;
 use decomposition::read;
 use refusal::one_to;
 use steps::bytes_for;
-use steps::element_count;
-use steps::first_large_element;
 
 // The table of PRESENT's S-box.
 const TABLE: [u8; 16] = [12, 5, 6, 11, 9, 0, 10, 13, 3, 14, 15, 8, 4, 7, 1, 2];
@@ -87,7 +83,7 @@ fn argument_tests(s: u32, key: &[u8], block: &[u8], random: &[u8], fits: bool) -
     if !lengths_fit(count, key.len(), block.len(), random.len(), fits) {
         return Tested::refuse(2, 0);
     }
-    element_tests(random)
+    Tested::Passed
 }
 
 // Whether key, block and random bytes, so many, are what so many shares take, and `fits` holds.
@@ -105,15 +101,4 @@ fn lengths_fit(count: usize, key: usize, block: usize, random: usize, fits: bool
         return false;
     }
     fits
-}
-
-// The test of the random elements.
-fn element_tests(random: &[u8]) -> Tested
-    ensures { λ r. ⌜ testedReport r ≡ testBelow 16 0 (elements 4 (now (random .entry))) (done []) ⌝ }
-{
-    let first = first_large_element(4, 16, random);
-    if first < element_count(4, random) {
-        return Tested::refuse(3, first);
-    }
-    Tested::Passed
 }

@@ -15,7 +15,7 @@ use Rattle.steps.specs.Program as program
 use Rattle.steps.specs.Watch.{watched}
 use Rattle.steps.specs.Call.{callCounts}
 use Rattle.steps.specs.Fill.{tabulate}
-use Rattle.steps.specs.Tape.{elements, bytesFor}
+use Rattle.steps.specs.Tape.{nibbles, elements, bytesFor}
 use Rattle.steps.specs.Operations.{column, maskedByte, splitShares}
 use Rattle.product.specs.Product.{start, pair, row, product}
 use Rattle.product.specs.ByShare.{byShare, constant, square, squares}
@@ -31,7 +31,7 @@ use Rattle.paper.specs.Cases.{Case, computed, zeroFit, splitValue, check
 
 rows : map (λ (c : Case). c .given) computed ≡ map (λ (c : Case). c .said) computed
 unfolding computed houseBasis products classes flatten exponents combination value join
-    _>>=_ _>>_ note random loop for first later result trace watched draws program.products start pair row product tabulate elements bytesFor
+    _>>=_ _>>_ note random loop for first later result trace watched draws program.products start pair row product tabulate nibbles elements bytesFor
     layout sized termsOf headed basisSize polynomialsOf basisIn solutionIn
     byShare square squares sbox.factors sbox.classesAfter sbox.powers constant sbox.term sbox.polynomial sbox.polynomials sbox.products sbox.total sbox.sbox
     sboxSteps callProgram sboxCall callCounts

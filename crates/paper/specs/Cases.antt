@@ -10,6 +10,7 @@ use Rattle.decomposition.specs.Record.{recordOf}
 use Rattle.decomposition.specs.Fit.{fitRecord, houseBasis, houseCall}
 use Rattle.steps.specs.Program.{result, trace}
 use Rattle.steps.specs.Watch.{watched}
+use Rattle.steps.specs.Tape.{elements}
 use Rattle.steps.specs.Call.{callCounts}
 use Rattle.steps.specs.Operations.{splitShares}
 use Rattle.product.specs.Product.{product}
@@ -34,13 +35,17 @@ left = 1 ∷ 2 ∷ 0 ∷ []
 abbrev pub right : List ℕ
 right = 4 ∷ 0 ∷ 1 ∷ []
 
--- their masked product with three random elements, in nine places
+-- the random elements 1, 2 and 3, as they lie in two bytes; the last nibble is not drawn
+abbrev pub drawn : List ℕ
+drawn = elements 4 (0x12 ∷ 0x30 ∷ [])
+
+-- their masked product with these random elements, in nine places
 abbrev pub maskedProduct : List ℕ
-maskedProduct = result (product 4 3 left right) (1 ∷ 2 ∷ 3 ∷ [])
+maskedProduct = result (product 4 3 left right) drawn
 
 -- the steps of its pair 0, 1: numbers 3 to 9
 abbrev pub pairSteps : List ℕ
-pairSteps = watched (3 ∷ 4 ∷ 5 ∷ 6 ∷ 7 ∷ 8 ∷ 9 ∷ []) (trace (product 4 3 left right) (1 ∷ 2 ∷ 3 ∷ []))
+pairSteps = watched (3 ∷ 4 ∷ 5 ∷ 6 ∷ 7 ∷ 8 ∷ 9 ∷ []) (trace (product 4 3 left right) drawn)
 
 -- (j) a record of width n, with every coefficient 0
 abbrev pub zeroRecord : ℕ → List ℕ
@@ -67,7 +72,7 @@ computed =
     ∷ gives (place 62 ∷ []) (47 ∷ [])
     ∷ gives (updateKey size80 1 0 ∷ []) (0xC0000000000000008000 ∷ [])
     ∷ gives (value 4 houseBasis 2 ∷ []) (9 ∷ [])
-    ∷ gives (callCounts (sboxCall (zeroRecord 4) 3 (replicate 3 0) (replicate 6 0))) (2 ∷ 6 ∷ 213 ∷ [])
+    ∷ gives (callCounts (sboxCall (zeroRecord 4) 3 (replicate 3 0) (replicate 3 0))) (2 ∷ 3 ∷ 213 ∷ [])
     ∷ gives (callCounts (sboxCall (zeroRecord 6) 3 (replicate 3 0) (replicate 15 0))) (5 ∷ 15 ∷ 930 ∷ [])
     ∷ gives (sboxSteps 4 3 ∷ sboxSteps 6 3 ∷ []) (213 ∷ 930 ∷ [])
     ∷ []

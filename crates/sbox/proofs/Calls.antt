@@ -1,6 +1,6 @@
 -- The laws of calls: the arguments that pass the tests, and what a run hands back and writes.
 use mathlib.Core.Path.{_≡_, refl, sym, ap, _∙_, subst}
-use mathlib.Core.Bool.{Bool, true, and-eq-true-iff}
+use mathlib.Core.Bool.{Bool, true, cond, and-eq-true-iff}
 use mathlib.Core.List.{List, [], _∷_, _++_}
 use Prim.Native.Nat.{ℕ, _+_, _-_, _*_, _^_, _≤_, _<_}
 use native.Mathlib.Nat.{mul-le-mul}
@@ -27,6 +27,7 @@ use Rattle.steps.specs.Machine.{zeroCounts, Ready, Went, Whole}
 use Rattle.steps.specs.Call.{callCounts, Takes}
 use Rattle.steps.specs.Call as call-spec
 use Rattle.steps.proofs.Call as call
+use Rattle.steps.proofs.Tape.{elements-nibbles}
 use Rattle.decomposition.specs.Layout.{termsOf, sized, layout, Known}
 use Rattle.decomposition.specs.Record.{widthOf, readOutcome, Accepted}
 use Rattle.decomposition.proofs.ReadOutcome.{read-values}
@@ -35,7 +36,7 @@ use Rattle.sbox.specs.Form.{basisSize}
 use Rattle.sbox.specs.Figures.{sboxProducts, sboxDraws, sboxSteps}
 use Rattle.sbox.specs.Polynomials.{basisIn, solutionIn}
 use Rattle.sbox.specs.Sbox.{sbox}
-use Rattle.sbox.specs.Operations.{callProgram, sboxCall, sboxLengths, argumentTests, callTests, sboxOutput, watchOutput, SameShares, Callable, watchOutcome}
+use Rattle.sbox.specs.Operations.{callProgram, sboxCall, sboxLengths, testedRandom, argumentTests, callTests, sboxOutput, watchOutput, SameShares, Callable, watchOutcome}
 use Rattle.sbox.proofs.Places.{sbox-same}
 use Rattle.sbox.proofs.Record.{accepted-record}
 use Rattle.sbox.proofs.Runs.{takes}
@@ -72,39 +73,47 @@ pub call-lengths-right : (n s shares random : ℕ) (fits : Bool) → shares ≡ 
 unfolding sboxLengths
 call-lengths-right n s shares random fits es er ef = rw (eq-eqb shares s es, eq-eqb random (bytesFor n (sboxDraws n s)) er, ef) refl
 
+-- the random elements are small where those that are tested are
+tested-small : (n : ℕ) → Known n → (random : List ℕ) → Small 8 random → Small n (testedRandom n random) → Small n (elements n random)
+unfolding testedRandom
+tested-small n w random bytes =
+    known-both (λ n. Small n (cond (eqb n 4) [] (elements n random)) → Small n (elements n random)) (λ h. elements-nibbles random bytes) (λ h. h) n w
+
 only : {n m : ℕ} → done (n ∷ []) ≡ done (m ∷ []) → n ≡ m
 only e = cc
 
 -- where the tests are passed, so is each of them
-pub passed-call : (r : List ℕ) (s : ℕ) (shares random : List ℕ) (fits : Bool) {v : List ℕ} → callTests r s shares random fits ≡ done v
+pub passed-call : (r : List ℕ) (s : ℕ) (shares random : List ℕ) (fits : Bool) → Small 8 random
+    → {v : List ℕ} → callTests r s shares random fits ≡ done v
     → Callable (widthOf r) r s shares random × (fits ≡ true) × (done (widthOf r ∷ []) ≡ done v)
 unfolding callTests argumentTests
-passed-call r s shares random fits e =
+passed-call r s shares random fits bytes e =
     let m = widthOf r in
     let a = then-passed (readOutcome r) _ e in
     let b = passed (oneTo 9 s) 7 0 _ (a .2) in
     let c = passed (sboxLengths m s (length shares) (length random) fits) 2 0 _ (b .1) in
     let lengths = call-lengths m s (length shares) (length random) fits (c .0) in
-    let l = shares ++ elements m random in
+    let l = shares ++ testedRandom m random in
     let g = passed (leb (length l) (firstLarge (2 ^ m) l)) 3 (0 + firstLarge (2 ^ m) l) _ (c .1) in
-    let small = both-small (2 ^ m) shares (elements m random) (leb-true (length l) (firstLarge (2 ^ m) l) (g .0)) in
+    let small = both-small (2 ^ m) shares (testedRandom m random) (leb-true (length l) (firstLarge (2 ^ m) l) (g .0)) in
     let range = one-to-range 9 s (b .0) in
+    let accepted = read-values r (a .1) .0 in
     let callable : Callable m r s shares random = record {
-      accepted = read-values r (a .1) .0;
+      accepted = accepted;
       some = range .0;
       nine = range .1;
       shares-length = lengths .0;
       random-length = lengths .1;
       shares-small = all-small (2 ^ m) shares (pow-pos m) (small .0);
-      random-small = all-small (2 ^ m) (elements m random) (pow-pos m) (small .1);
+      random-small = tested-small m (accepted .width) random bytes (all-small (2 ^ m) (testedRandom m random) (pow-pos m) (small .1));
     } in
     (callable, lengths .2, g .1)
 
 -- the same where they hand on the width n
-pub tests-passed : (r : List ℕ) (s : ℕ) (shares random : List ℕ) (fits : Bool) (n : ℕ) → callTests r s shares random fits ≡ done (n ∷ [])
+pub tests-passed : (r : List ℕ) (s : ℕ) (shares random : List ℕ) (fits : Bool) (n : ℕ) → Small 8 random → callTests r s shares random fits ≡ done (n ∷ [])
     → Callable n r s shares random × (fits ≡ true)
-tests-passed r s shares random fits n e =
-    let p = passed-call r s shares random fits e in
+tests-passed r s shares random fits n bytes e =
+    let p = passed-call r s shares random fits bytes e in
     (subst (λ (k : ℕ). Callable k r s shares random) (only (p .2)) (p .0), p .1)
 
 -- ---- its run

@@ -10,7 +10,7 @@ use Rattle.xor.specs.Sum.{join}
 use Rattle.xor.proofs.Sum.{join-split}
 use Rattle.refusal.specs.Outcome.{done}
 use Rattle.steps.specs.Split.{settled}
-use Rattle.steps.specs.Settled.{Choice, settles-nil, settles-cons}
+use Rattle.steps.specs.Settled.{Choice, Settled, settles-nil, settles-cons}
 use Rattle.steps.proofs.Chosen.{masks-length}
 use Rattle.steps.proofs.Operations.{split-accepts, join-accepts, split-elements}
 use Rattle.decomposition.specs.Layout.{layout}
@@ -24,7 +24,7 @@ use Rattle.sbox.specs.Experiment.{sboxInputs}
 use Rattle.sbox.specs.Operations.{sboxOutcome}
 use Rattle.sbox.specs.Chain.{splitElement, substituted, Chained}
 use Rattle.sbox.proofs.Output.{output-length, join-form}
-use Rattle.sbox.proofs.Settles.{call-accepted}
+use Rattle.sbox.proofs.Settles.{random-bytes, call-accepted}
 
 module _ (r : List ℕ) (n s : ℕ) (read : readOutcome r ≡ done (n ∷ [])) (some : 0 < s) (nine : s ≤ 9)
     (x : ℕ) (secret : x < 2 ^ n) (masks random : List ℕ) (choice : Choice (sboxInputs n s) (masks ∷ []) random) where
@@ -39,15 +39,17 @@ module _ (r : List ℕ) (n s : ℕ) (read : readOutcome r ≡ done (n ∷ [])) (
       let are = split-elements s x masks (masked) in
       let lent : length shares ≡ s = ap length are ∙ omega (arith, masked) in
       let long : length written ≡ s = output-length r s shares random in
+      let whole : Settled (sboxInputs n s) (settled x masks ∷ []) random =
+      record { values = x ∷ []; masks = masks ∷ []; choice = choice; settles = settles-cons secret refl settles-nil } in
+      let bytes = random-bytes r n s read some nine (settled x masks) random whole in
       let accepted : sboxOutcome r s shares random s ≡ done (figures n s) =
-      ap (λ (l : List ℕ). sboxOutcome r s l random s) are ∙ call-accepted r n s read some nine (settled x masks) random
-      (record { values = x ∷ []; masks = masks ∷ []; choice = choice; settles = settles-cons secret refl settles-nil }) in
+      ap (λ (l : List ℕ). sboxOutcome r s l random s) are ∙ call-accepted r n s read some nine (settled x masks) random whole in
       record {
         split-done = split-accepts 1 s (length masks) (length shares) some nine (omega arith) (omega arith)
             (masked ∙ sym (mul-one (s - 1))) (lent ∙ sym (mul-one s));
         sbox-done = ap (sboxOutcome r s shares random) long ∙ accepted;
         join-done = join-accepts (length written) s 1 some nine (omega arith) (omega arith) (long ∙ sym (mul-one s));
-        join-writes = rw (read-accepted r n read .named) at (join-form r s shares random s accepted)
+        join-writes = rw (read-accepted r n read .named) at (join-form r s shares random s bytes accepted)
             ∙ ap (λ (y : ℕ). recordForm (layout n) r y ∷ []) (ap join are ∙ join-split x masks);
       }
 

@@ -10,6 +10,7 @@ use lib.ListN.{length, replicate}
 use Rattle.field.specs.Polynomial.{exponents}
 use Rattle.field.proofs.Polynomial.{length-exponents-4, length-exponents-6}
 use Rattle.steps.specs.Program.{one}
+use Rattle.steps.specs.Tape.{bytesFor, Full}
 use Rattle.steps.specs.Shape.{stepOf, Shape, touchesOf, bitsOf, stepsOf, drawsOf, productsOf, Counting, Uniform, forShape}
 use Rattle.steps.proofs.Shape.{counts-steps, counts-draws, counts-products, counts-for, uniform-append, uniform-for}
 use Rattle.product.specs.Product.{productShape}
@@ -145,3 +146,20 @@ module _ (n s : ℕ) where
 
 pub sbox-bits : (n s : ℕ) → Known n → bitsOf (sboxShape n s (basisSize n)) ≡ replicate (sboxDraws n s) n
 sbox-bits n s w = uniform-sbox n s (basisSize n) ∙ ap (λ (k : ℕ). replicate k n) (sbox-draws n s w)
+
+-- ---- in bytes
+
+-- THE RANDOM BYTES of a call: at width 4 two elements fill each,
+pub sbox-bytes-4 : (s : ℕ) → bytesFor 4 (sboxDraws 4 s) ≡ s * (s - 1) / 2
+unfolding bytesFor sboxDraws
+sbox-bytes-4 s = omega (arith, pairs-twice s)
+
+-- at width 6 each holds one.
+pub sbox-bytes-6 : (s : ℕ) → bytesFor 6 (sboxDraws 6 s) ≡ 5 * (s * (s - 1)) / 2
+unfolding bytesFor sboxDraws
+sbox-bytes-6 s = refl
+
+-- no byte has room for more
+pub sbox-full : (n s : ℕ) → Known n → Full n (sboxDraws n s)
+unfolding bytesFor sboxDraws
+sbox-full n s = known-both (λ n. Full n (sboxDraws n s)) (omega (arith, pairs-twice s)) refl n

@@ -5,7 +5,7 @@ use mathlib.Core.List.{List, [], _∷_}
 use Prim.Native.Nat.{ℕ}
 use lib.Dec.{eqb}
 use lib.ListN.{length, getD}
-use Rattle.xor.specs.Sum.{join}
+use Rattle.xor.specs.Sum.{join, Small}
 use Rattle.xor.proofs.Sum.{join-small}
 use Rattle.refusal.specs.Outcome.{done}
 use Rattle.steps.specs.Sharing.{share}
@@ -35,12 +35,12 @@ unfolding sboxOutcome sboxCall
 passed-tests r s shares random out e = call-passed (sboxCall r s shares random) (eqb out s) e
 
 -- FROM THE ANSWER. If S-box answers done, what it writes joins to the record's form at what the shares join to.
-pub output-joins : (r : List ℕ) (s : ℕ) (shares random : List ℕ) (out : ℕ) {v : List ℕ} → sboxOutcome r s shares random out ≡ done v
+pub output-joins : (r : List ℕ) (s : ℕ) (shares random : List ℕ) (out : ℕ) → Small 8 random → {v : List ℕ} → sboxOutcome r s shares random out ≡ done v
     → join (sboxOutput r s shares random) ≡ recordForm (layout (widthOf r)) r (join shares)
 unfolding sboxOutput sboxCall callResult callProgram
-output-joins r s shares random out e =
+output-joins r s shares random out bytes e =
     let n = widthOf r in
-    let call = passed-call r s shares random (eqb out s) (passed-tests r s shares random out e .1) .0 in
+    let call = passed-call r s shares random (eqb out s) bytes (passed-tests r s shares random out e .1) .0 in
     let accepted = accepted-record n r (call .accepted) in
     let shared = sharing-of n s shares (call .shares-length) (call .shares-small) in
     let h = result-sharing accepted s (join shares) shares (elements n random) (call .some) (call .nine) shared (call .random-small) in
@@ -55,18 +55,19 @@ output-length r s shares random = length-tabulate s (share (callResult (sboxCall
 
 -- ---- what Join writes from it
 
-module _ (r : List ℕ) (s : ℕ) (shares random : List ℕ) (out : ℕ) {v : List ℕ} (e : sboxOutcome r s shares random out ≡ done v) where
+module _ (r : List ℕ) (s : ℕ) (shares random : List ℕ) (out : ℕ) (bytes : Small 8 random)
+    {v : List ℕ} (e : sboxOutcome r s shares random out ≡ done v) where
   -- IN BYTES. If S-box answers done, what Join writes from what S-box writes is the record's form at what the shares join to,
   pub join-form : joinShares 1 s (sboxOutput r s shares random) ≡ recordForm (layout (widthOf r)) r (join shares) ∷ []
   join-form =
       join-elements s (sboxOutput r s shares random) (output-length r s shares random)
-      ∙ ap (λ (y : ℕ). y ∷ []) (output-joins r s shares random out e)
+      ∙ ap (λ (y : ℕ). y ∷ []) (output-joins r s shares random out bytes e)
 
   -- and the table's entry there, for a table with which Check accepts the record.
   pub join-table : (table : List ℕ) → checkOutcome r table ≡ done []
       → joinShares 1 s (sboxOutput r s shares random) ≡ getD table (join shares) 0 ∷ []
   join-table table checked =
       let n = widthOf r in
-      let call = passed-call r s shares random (eqb out s) (passed-tests r s shares random out e .1) .0 in
+      let call = passed-call r s shares random (eqb out s) bytes (passed-tests r s shares random out e .1) .0 in
       let small = join-small n shares (call .shares-small) in
       join-form ∙ ap (λ (y : ℕ). y ∷ []) (check-computes r table checked .equal (join shares) (rw (layout-width n) small))

@@ -1,4 +1,4 @@
--- TO COUNT TAPES IS TO COUNT CALLS. The tapes that `choices` counts are those of the choices, one to one (crates/steps/proofs/Chosen.antt), and each
+-- TO COUNT TAPES IS TO COUNT CALLS. The tapes that `choices` counts are those of the choices, one to one, and each
 -- with a secret settles one call (crates/steps/proofs/Settled.antt). Watch S-box accepts it, with any list of up to 64 step numbers, and writes the
 -- values that are counted: those of the experiment on this tape.
 use mathlib.Core.Path.{_≡_, sym, ap, _∙_}
@@ -9,15 +9,29 @@ use Rattle.refusal.specs.Outcome.{done}
 use Rattle.steps.specs.Program.{trace}
 use Rattle.steps.specs.Watch.{watched}
 use Rattle.steps.specs.Tape.{elements}
-use Rattle.steps.specs.Settled.{MasksFor, masks-nil, masks-cons, masksThen, Chosen, Settles, settles-nil, settles-cons, Settled}
+use Rattle.steps.specs.Choices.{Fits}
+use Rattle.steps.specs.Settled.{Choice, choiceBits, MasksFor, masks-nil, masks-cons, masksThen, Chosen, Settles, settles-nil, settles-cons, Settled}
+use Rattle.steps.proofs.Chosen.{choice-tape, tape-choice}
+use Rattle.decomposition.specs.Layout.{Known}
 use Rattle.decomposition.specs.Record.{widthOf, readOutcome}
 use Rattle.decomposition.proofs.ReadOutcome.{read-accepted}
 use Rattle.sbox.specs.Figures.{figures, sboxSteps}
 use Rattle.sbox.specs.Polynomials.{basisIn, solutionIn}
 use Rattle.sbox.specs.Experiment.{experiment, sboxInputs}
 use Rattle.sbox.specs.Operations.{watchOutcome, watchOutput}
+use Rattle.sbox.proofs.Counts.{sbox-full}
 use Rattle.sbox.proofs.Settles.{watch-accepted}
 use Rattle.sbox.proofs.Watched.{watch-shows}
+
+-- ONE TO ONE. The random elements fill their bytes, so a choice has an element for each draw and fits the draws,
+pub choice-taped : (n s : ℕ) → Known n → (masks : List (List ℕ)) (random : List ℕ) → Choice (sboxInputs n s) masks random
+    → let tape = masksThen masks (elements n random) in let bits = choiceBits (sboxInputs n s) in (length tape ≡ length bits) × Fits bits tape
+choice-taped n s w = choice-tape (sboxInputs n s) (sbox-full n s w)
+
+-- and each such tape is that of a choice; of no other (`chosen-once`).
+pub tape-chosen : (n s : ℕ) → Known n → (tape : List ℕ) → let bits = choiceBits (sboxInputs n s) in length tape ≡ length bits → Fits bits tape
+    → Chosen (sboxInputs n s) tape
+tape-chosen n s w = tape-choice (sboxInputs n s) (sbox-full n s w)
 
 -- a watch writes what the experiment shows, of the masks of a choice
 shown : (r : List ℕ) (n s : ℕ) → widthOf r ≡ n → (x : ℕ) {masks : List (List ℕ)} {shares : List ℕ} (random list : List ℕ)

@@ -46,7 +46,7 @@ fn split_both(key: &mut [u8], shares: &mut [u8]) {
     let value = example::AES_KEY;
     let block = example::AES_BLOCK;
     let mut masks = [0u8; 64];
-    example::fill(255, &mut masks);
+    example::fill(&mut masks);
     let drawn = &masks[..];
     sharing::show_split(b"    key     ", 16, &value, &drawn[0..32], key);
     sharing::show_split(b"\n    block   ", 16, &block, &drawn[32..64], shares);
@@ -68,6 +68,6 @@ pub fn part() {
     text::print(b"of FIPS 197, appendix C.1. Byte i of the masks, and of the random bytes, is\n");
     text::print(b"here 7 i + 3 modulo 256: a fixed example value.\n\n");
     split_both(&mut key, &mut shares);
-    example::fill(255, &mut random);
+    example::fill(&mut random);
     show_sealed(&key, &shares, &random, &mut out, &mut sum, &published);
 }

@@ -102,16 +102,16 @@ pub const AES_PUBLISHED: [u8; 16] = [
     0x5a,
 ];
 
-// An example element, up to `largest`, in place of random element i: a plain pattern, so that nobody takes it for a random one.
-fn element(largest: u8, i: usize) -> u8 {
-    ((i % 256 * 7 + 3) % 256) as u8 & largest
+// An example byte in place of random byte i: a plain pattern, so that nobody takes it for a random one.
+fn byte(i: usize) -> u8 {
+    ((i % 256 * 7 + 3) % 256) as u8
 }
 
-// Fills the bytes that stand for random elements up to `largest`, 15 or 255, as the library takes no randomness by itself.
-pub fn fill(largest: u8, out: &mut [u8]) {
+// Fills the bytes that stand for random ones, as the library takes no randomness by itself.
+pub fn fill(out: &mut [u8]) {
     let mut i = 0;
     while i < out.len() {
-        out[i] = element(largest, i);
+        out[i] = byte(i);
         i += 1;
     }
 }

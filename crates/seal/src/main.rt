@@ -22,11 +22,11 @@ fn main() {
     let mut record = [0u8; 33];
     let mut key = [0u8; 30];
     let mut block = [0u8; 24];
-    let mut random = [0u8; 3162];
+    let mut random = [0u8; 1581];
     open_page();
     fitting::part(&mut record);
     sharing::part(&mut key, &mut block);
-    example::fill(15, &mut random);
+    example::fill(&mut random);
     sealing::part(&record, &key, &block, &random);
     watching::part(&record, &key, &block, &random);
     aes_sealing::part();

@@ -95,8 +95,9 @@ pub fn part(record: &[u8; 33], key: &[u8], shares: &[u8], random: &[u8]) {
     let mut out = [0u8; 24];
     let mut sum = [0u8; 8];
     text::print(b"\n3. The ciphertext in three shares\n\n");
-    text::print(b"Block takes the record, the shares and 3162 random elements. It never adds\n");
-    text::print(b"the shares of a secret up, and hands back shares of the ciphertext and what\n");
-    text::print(b"it took. Random element i is here 7 i + 3 modulo 16: a fixed example value.\n\n");
+    text::print(b"Block takes the record, the shares and 1581 random bytes, each of which holds\n");
+    text::print(b"two elements. It never adds the shares of a secret up, and hands back shares\n");
+    text::print(b"of the ciphertext and what it took. Random byte i is here 7 i + 3 modulo 256:\n");
+    text::print(b"a fixed example value.\n\n");
     show_sealed(record, key, shares, random, &mut out, &mut sum, &published);
 }

@@ -1,12 +1,12 @@
--- A CHOICE IS A TAPE, of every masked operation. The tapes that `choices` counts, an element for each draw of `choiceBits`, are the masks of a choice
--- followed by its random elements, each tape that of exactly one choice.
+-- A CHOICE IS A TAPE, of every masked operation whose random elements fill their bytes. The tapes that `choices` counts, an element for each draw of
+-- `choiceBits`, are the masks of a choice followed by its random elements, each tape that of exactly one choice.
 use mathlib.Core.Path.{_≡_, refl, sym, ap, ap₂, _∙_}
 use mathlib.Core.List.{List, [], _∷_, _++_}
 use Prim.Native.Nat.{ℕ, _-_}
 use native.Mathlib.Omega.{arith}
 use lib.ListN.{length, replicate, length-replicate}
 use Rattle.steps.specs.Choices.{Fits}
-use Rattle.steps.specs.Tape.{elements}
+use Rattle.steps.specs.Tape.{elements, Full}
 use Rattle.steps.specs.Settled.{Secret, secretBits, Inputs, MasksFor, masks-nil, masks-cons, Choice, maskBits, choiceBits, masksThen, Chosen}
 use Rattle.steps.proofs.Choices.{fits-small, small-fits, tape-joined, tape-parted, parts-once}
 use Rattle.steps.proofs.Tape.{elements-count, elements-held, elements-once}
@@ -26,14 +26,14 @@ masks-tape s more t (masks-cons {x} {xs} {l} {ls} e small rest) h =
     tape-joined (secretBits x) (s - 1) (maskBits s xs more) l (masksThen ls t) e small (masks-tape s more t rest h)
 
 -- A CHOICE IS A TAPE: it has an element for each draw, and fits the draws.
-pub choice-tape : (c : Inputs) (masks : List (List ℕ)) (random : List ℕ) → Choice c masks random
+pub choice-tape : (c : Inputs) → Full (c .width) (c .draws) → (masks : List (List ℕ)) (random : List ℕ) → Choice c masks random
     → let tape = masksThen masks (elements (c .width) random) in (length tape ≡ length (choiceBits c)) × Fits (choiceBits c) tape
 unfolding choiceBits
-choice-tape c masks random a =
+choice-tape c full masks random a =
     let n = c .width in
     let d = c .draws in
     masks-tape (c .shares) (replicate d n) (elements n random) (a .masks-are)
-    (elements-count n random d (a .random-length) ∙ sym (length-replicate d n), fits-small n d (elements n random) (a .random-small))
+    (elements-count n random d full (a .random-length) ∙ sym (length-replicate d n), fits-small n d (elements n random) (a .random-small))
 
 -- the masks at the beginning of a tape, and what comes after them
 record Begun (s : ℕ) (xs : List Secret) (more tape : List ℕ) : Type 0 where
@@ -62,21 +62,22 @@ tape-masks s (x ∷ xs) more tape e h =
     }
 
 -- EACH SUCH TAPE is that of a choice;
-pub tape-choice : (c : Inputs) (tape : List ℕ) → length tape ≡ length (choiceBits c) → Fits (choiceBits c) tape → Chosen c tape
+pub tape-choice : (c : Inputs) → Full (c .width) (c .draws) → (tape : List ℕ) → length tape ≡ length (choiceBits c) → Fits (choiceBits c) tape → Chosen c tape
 unfolding choiceBits
-tape-choice c tape e h =
+tape-choice c full tape e h =
     let n = c .width in
     let d = c .draws in
     let parts = tape-masks (c .shares) (c .secrets) (replicate d n) tape e h in
     let count : length (parts .rest) ≡ d = parts .rest-length ∙ length-replicate d n in
-    let held = elements-held n d (parts .rest) count in
+    let small = small-fits n d (parts .rest) (omega arith) (parts .rest-fits) in
+    let held = elements-held n d (parts .rest) full small count in
     record {
       masks = parts .masks;
       random = held .0;
       choice = record {
         masks-are = parts .masks-are;
         random-length = held .1;
-        random-small = rw (held .2) (small-fits n d (parts .rest) (omega arith) (parts .rest-fits));
+        random-small = rw (held .2) small;
       };
       tape-is = parts .whole ∙ ap (masksThen (parts .masks)) (sym (held .2));
     }

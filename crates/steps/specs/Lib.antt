@@ -12,6 +12,7 @@ pub mod Recorder
 pub mod Tape
 pub mod Machine
 pub mod Call
+pub mod Alike
 pub mod Loop
 pub mod Fill
 pub mod Bytes

@@ -32,12 +32,9 @@ lengths-right : (c : tie.Else2) → let a = c .before .before .before .before .b
     blockLengths (a .s) (length (a .key .now)) (length (a .block .now)) (length (a .random .now)) (a .fits) ≡ true
 lengths-right c = test-passes (c .before .lengths-fit .ensures) (c .if2 .left)
 
-element-tests-requires : tie.Need-element-tests-requires
-element-tests-requires c κs = search needs
-
 returns-3 : tie.Need-returns-3
 unfolding argumentTests
-returns-3 c = rw (share-count (c .before .before .before), lengths-right (c .before)) (c .element-tests .ensures)
+returns-3 c = rw (share-count (c .before .before), lengths-right c)
 
 pub argument-tests-spec : {M : Type 1} → statement M
 argument-tests-spec =
@@ -49,5 +46,4 @@ argument-tests-spec =
     lengths-fit-requires
     (λ c κs. search needs)
     returns-2
-    element-tests-requires
     returns-3)

@@ -1,9 +1,11 @@
 -- `arguments::lengths_fit` meets its contract: each test is that of the definition.
-use mathlib.Core.Path.{_≡_, sym, _∙_}
+use mathlib.Core.Path.{_≡_, sym, ap, _∙_}
 use mathlib.Core.Bool.{_&&_}
 use lib.Dec.{eqb}
 use borrow.Author.Needs.{needs}
 use borrow.Author.Tests.{eq-eqb, ne-eqb}
+use Rattle.steps.specs.Tape.{bytesFor}
+use Rattle.cipher.specs.Figures.{blockDraws}
 use Rattle.cipher.specs.Operations.{blockLengths}
 use Rattle.cipher.proofs.arguments.lengths_fit.Statement.{statement}
 use Rattle.cipher.proofs.arguments.lengths_fit.Tie as tie
@@ -25,17 +27,15 @@ returns-2 c = rw (eq-eqb _ _ (c .before .if1 .left), ne-eqb _ _ (c .if2 .taken))
 draw-count-requires : tie.Need-draw-count-requires
 draw-count-requires c κs = search needs
 
+-- the bytes that the random elements of a block take
+drawn : (c : tie.After-bytes-for) → c .bytes-for .result ≡ bytesFor 4 (blockDraws (c .before .before .before .before .args .count))
+drawn c = c .bytes-for .ensures ∙ ap (bytesFor 4) (c .before .draw-count .ensures)
+
 -- the lengths of key and block are right, so it is by that of the random bytes
 by-random : (c : tie.After-bytes-for) → let a = c .before .before .before .before .args in
     blockLengths (a .count) (a .key) (a .block) (a .random) (a .fits) ≡ (eqb (a .random) (c .bytes-for .result) && a .fits)
 unfolding blockLengths
-by-random c =
-    rw (
-      eq-eqb _ _ (c .before .before .before .if1 .left),
-      eq-eqb _ _ (c .before .before .if2 .left),
-      ← (c .before .draw-count .ensures),
-      ← (c .bytes-for .ensures),
-    )
+by-random c = rw (eq-eqb _ _ (c .before .before .before .if1 .left), eq-eqb _ _ (c .before .before .if2 .left), drawn c)
 
 returns-3 : tie.Need-returns-3
 returns-3 c = sym (by-random (c .before) ∙ rw (ne-eqb _ _ (c .if3 .taken)))

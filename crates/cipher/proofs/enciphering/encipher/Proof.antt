@@ -20,7 +20,8 @@ encrypt-requires c κs =
     let p = c .before .before .before .before .before .before .before .pre .0 in
     let hk : Small 8 (c .before .before .before .before .before .before .before .args .key .now) = λ j. omega (arith, c .before .before .before .before .before .shared-slice-known2 .given j) in
     let hb : Small 8 (c .before .before .before .before .before .before .before .args .block .now) = λ j. omega (arith, c .before .before .before .before .shared-slice-known3 .given j) in
-    ((p .some, p .nine, record-room p, p .key-length, p .block-length), (call-closed p, call-ready p hk hb (search needs)))
+    let hr : Small 8 (c .before .before .before .before .before .before .before .args .random .now) = λ j. omega (arith, c .before .before .before .shared-slice-known4 .given j) in
+    ((p .some, p .nine, record-room p, p .key-length, p .block-length), (call-closed p hr, call-ready p hk hb hr (search needs)))
 
 slice-aggregate-store : tie.Need-slice-aggregate-store
 slice-aggregate-store c = search needs

@@ -18,12 +18,15 @@ use Rattle.cipher.proofs.watching.watch.Tie as tie
 abbrev start : tie.After-first-past → tie.Start
 start c = c .before .before .before .before .before .before .before .before
 
--- shares are bytes
+-- shares and random elements lie in bytes
 key-bytes : (c : tie.After-first-past) → Small 8 (start c .args .key .now)
 key-bytes c = λ j. omega (arith, c .before .before .before .before .before .before .shared-slice-known2 .given j)
 
 block-bytes : (c : tie.After-first-past) → Small 8 (start c .args .block .now)
 block-bytes c = λ j. omega (arith, c .before .before .before .before .before .shared-slice-known3 .given j)
+
+random-bytes : (c : tie.After-first-past) → Small 8 (start c .args .random .now)
+random-bytes c = λ j. omega (arith, c .before .before .before .before .shared-slice-known4 .given j)
 
 -- the place of the first number that is not a step's
 past : (c : tie.After-first-past) → firstLarge (blockSteps (start c .args .s)) (start c .args .list .now) ≡ c .first-past .result
@@ -44,7 +47,7 @@ encrypt-requires c κs =
     let d = c .before .before in
     let p = start d .pre in
     let a = p .0 in
-    ((a .some, a .nine, record-room a, a .key-length, a .block-length), (call-closed a, call-ready a (key-bytes d) (block-bytes d) (p .1)))
+    ((a .some, a .nine, record-room a, a .key-length, a .block-length), (call-closed a (random-bytes d), call-ready a (key-bytes d) (block-bytes d) (random-bytes d) (p .1)))
 
 returns-2 : tie.Need-returns-2
 returns-2 c =
@@ -54,7 +57,7 @@ returns-2 c =
     let h : length (a .list .now) ≤ firstLarge (blockSteps (a .s)) (a .list .now) = omega (arith, past d, c .before .before .before .before .before .before .if1 .left) in
     let w = c .before .before .before .before .encrypt .ensures .0 in
     succeeds (rw (le-leb _ _ h, call-counts (p .0) (went-whole w), ← (c .bytes-for .ensures)))
-    (call-watched (p .0) (key-bytes d) (block-bytes d) (p .1) h w)
+    (call-watched (p .0) (key-bytes d) (block-bytes d) (random-bytes d) (p .1) h w)
 
 pub watch-spec : {M : Type 1} → statement M
 watch-spec =

@@ -1,10 +1,12 @@
 -- `sbox` meets its contract: by what the tests come to.
 use mathlib.Core.Path.{_≡_, sym, ap, _∙_}
 use mathlib.Core.List.{[], _∷_}
+use native.Mathlib.Omega.{arith}
 use borrow.Author.Needs.{needs}
 use borrow.Author.Tests.{eqb-true}
 use lib.Dec.{eqb}
 use lib.ListN.{length}
+use Rattle.xor.specs.Sum.{Small}
 use Rattle.refusal.specs.Outcome.{done}
 use Rattle.refusal.proofs.Outcome.{refuses}
 use Rattle.sbox.specs.Operations.{testedReport, callTests, sboxOutcome, sboxCall}
@@ -18,6 +20,10 @@ tested : (c : tie.After-tested2) → let a = c .before .before .before .before .
     callTests (a .rec .now) (a .s) (a .shares .now) (a .random .now) (eqb (length (a .out .now)) (a .s)) ≡ done (c .tested2 .given .0 .0 ∷ [])
 tested c = sym (c .before .before .call-tests .ensures) ∙ ap testedReport (c .tested2 .given .1)
 
+-- the random elements lie in bytes
+bytes : (c : tie.After-tested2) → Small 8 (c .before .before .before .before .before .before .before .args .random .now)
+bytes c j = omega (arith, c .before .before .before .before .shared-slice-known3 .given j)
+
 enum-known-tested : tie.Need-enum-known-tested
 enum-known-tested c = search needs
 
@@ -26,7 +32,7 @@ enum-known-tested-2 c = search needs
 
 substitute-requires : tie.Need-substitute-requires
 substitute-requires c κs =
-    let p = tests-passed _ _ _ _ _ _ (tested (c .before .before)) in
+    let p = tests-passed _ _ _ _ _ _ (bytes (c .before .before)) (tested (c .before .before)) in
     (p .0, eqb-true _ _ (p .1))
 
 returns : tie.Need-returns

@@ -8,16 +8,16 @@ use Rattle.seal.proofs.example.fill.Statement.{statement}
 use Rattle.seal.proofs.example.fill.Tie as tie
 
 abbrev Inv-loop : tie.InvT-loop
-Inv-loop largest out₀ i₀ out i = (i ≤ length out₀) × (length out ≡ length out₀)
+Inv-loop out₀ i₀ out i = (i ≤ length out₀) × (length out ≡ length out₀)
 
 abbrev μ-loop : tie.MeasureT-loop
-μ-loop largest out₀ i₀ out i = length out₀ - i
+μ-loop out₀ i₀ out i = length out₀ - i
 
 loop-holds : tie.Need-loop-holds Inv-loop μ-loop
 loop-holds c = (omega arith, refl)
 
-element-requires : tie.Need-element-requires Inv-loop μ-loop
-element-requires c κs = search needs
+byte-requires : tie.Need-byte-requires Inv-loop μ-loop
+byte-requires c κs = search needs
 
 slice-write-out : tie.Need-slice-write-out Inv-loop μ-loop
 slice-write-out c = search needs
@@ -44,7 +44,7 @@ fill-spec =
     Inv-loop
     μ-loop
     loop-holds
-    element-requires
+    byte-requires
     slice-write-out
     add-i
     loop-less

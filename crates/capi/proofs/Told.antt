@@ -5,7 +5,7 @@ use mathlib.Core.List.{List, [], _∷_, _++_}
 use Prim.Native.Nat.{ℕ, _<_, _+_, _*_, _^_}
 use native.Mathlib.Omega.{arith}
 use lib.Dec.{leb, eqb}
-use lib.ListN.{length, getD, drop}
+use lib.ListN.{length, getD}
 use Rattle.refusal.specs.Outcome.{Outcome, done, refused, test, andThen}
 use Rattle.refusal.specs.Range.{oneTo}
 use Rattle.refusal.specs.Large.{firstLarge, testBelow}
@@ -13,10 +13,10 @@ use Rattle.refusal.specs.Watch.{listFits, testSteps}
 use Rattle.steps.specs.Call.{Call, callCounts}
 use Rattle.steps.specs.Call as call
 use Rattle.steps.specs.Operations.{splitLengths, splitOutcome, joinLengths, joinOutcome}
-use Rattle.decomposition.specs.Record.{readOutcome, widthOf, marked}
+use Rattle.decomposition.specs.Record.{coefficientsOf, readOutcome, widthOf, marked}
 use Rattle.decomposition.specs.Check.{checkOutcome, checkAt, firstDifference, recordForm}
 use Rattle.decomposition.specs.Fit.{FitCall, fitLengths, fitOutcome, allTests}
-use Rattle.decomposition.specs.Layout.{layout, known}
+use Rattle.decomposition.specs.Layout.{head, layout, recordSize, known}
 use Rattle.decomposition.specs.Solution.{solvable}
 use Rattle.sbox.specs.Operations as sbox
 use Rattle.cipher.specs.Operations as cipher
@@ -44,11 +44,11 @@ pub read-told : (r : List ℕ) → Told (readOutcome r)
 unfolding readOutcome
 read-told r =
     let L = layout (widthOf r) in
-    told-test (leb 6 (length r)) 2 0 _ (omega arith)
+    told-test (leb head (length r)) 2 0 _ (omega arith)
     (told-test (marked r) 5 0 _ (omega arith)
     (told-test (known (widthOf r)) 1 0 _ (omega arith)
-    (told-test (eqb (length r) (L .size)) 2 0 _ (omega arith)
-    (told-below (L .inputs) 6 (drop 6 r) (done (L .width ∷ [])) tt))))
+    (told-test (eqb (length r) (recordSize L)) 2 0 _ (omega arith)
+    (told-below (L .inputs) head (coefficientsOf r) (done (L .width ∷ [])) tt))))
 
 pub check-told : (r table : List ℕ) → Told (checkOutcome r table)
 unfolding checkOutcome

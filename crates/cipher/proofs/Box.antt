@@ -5,11 +5,11 @@ use Prim.Native.Nat.{ℕ, _^_, _≤_, _<_}
 use Rattle.xor.proofs.Sum.{join-small}
 use Rattle.field.proofs.Inverses.{field-4}
 use Rattle.steps.proofs.Shape.{shaped-weaken}
+use Rattle.decomposition.specs.Record.{coefficientsOf}
 use Rattle.decomposition.proofs.ReadOutcome.{read-accepted}
 use Rattle.decomposition.proofs.Theorems.{check-computes}
 use Rattle.decomposition.proofs.Sizes.{layout-width}
-use Rattle.sbox.specs.Form.{formOf, AcceptedForm}
-use Rattle.sbox.specs.Polynomials.{basisIn, solutionIn}
+use Rattle.sbox.specs.Form.{formOf, AcceptedForm, basisIn, solutionIn}
 use Rattle.sbox.proofs.Shape.{shaped-sbox}
 use Rattle.sbox.proofs.Coupling.{coupled-sbox}
 use Rattle.sbox.proofs.Record.{accepted-record, record-form}
@@ -19,22 +19,22 @@ use Rattle.cipher.specs.Box.{recordSbox}
 use Rattle.cipher.specs.Experiment.{PresentRecord, boxShape}
 
 module _ (r : List ℕ) (accepted : PresentRecord r) (s : ℕ) where
-  coefficients : AcceptedForm 4 (basisIn 4 r) (solutionIn 4 r)
+  coefficients : AcceptedForm 4 (basisIn 4 (coefficientsOf r)) (solutionIn 4 (coefficientsOf r))
   coefficients = accepted-record 4 r (read-accepted r 4 (accepted .read))
 
   -- the form is PRESENT's S-box
-  form-substitutes : (x : ℕ) → x < 2 ^ 4 → formOf 4 (basisIn 4 r) (solutionIn 4 r) x ≡ substitute x
+  form-substitutes : (x : ℕ) → x < 2 ^ 4 → formOf 4 (basisIn 4 (coefficientsOf r)) (solutionIn 4 (coefficientsOf r)) x ≡ substitute x
   unfolding substitute
   form-substitutes x h =
       let computes = rw (read-accepted r 4 (accepted .read) .named) at (check-computes r table (accepted .checked)) in
-      record-form 4 r x ∙ computes .equal x (rw (layout-width 4) h)
+      record-form 4 (coefficientsOf r) x ∙ computes .equal x (rw (layout-width 4) h)
 
-  pub substitutes : 0 < s → s ≤ 9 → Substitutes substitute s (boxShape s) (recordSbox s r)
+  pub substitutes : 0 < s → s ≤ 9 → Substitutes substitute s (boxShape s) (recordSbox s (coefficientsOf r))
   unfolding boxShape
   substitutes some nine x a h =
       let small : x < 2 ^ 4 = subst (λ (v : ℕ). v < 2 ^ 4) (h .joins) (join-small 4 a (h .small)) in
-      let shaped = rw (coefficients .size) at (shaped-sbox (coefficients .width) s x (basisIn 4 r) (solutionIn 4 r) a some nine (coefficients .coefficients) h) in
+      let shaped = rw (coefficients .size) at (shaped-sbox (coefficients .width) s x (basisIn 4 (coefficientsOf r)) (solutionIn 4 (coefficientsOf r)) a some nine (coefficients .coefficients) h) in
       shaped-weaken shaped (λ c g. rw (form-substitutes x small) at (g .1))
 
-  pub hides : (u : ℕ) → Hides u (recordSbox s r)
+  pub hides : (u : ℕ) → Hides u (recordSbox s (coefficientsOf r))
   hides u a b h = coupled-sbox (field-4 .ring) s u (coefficients .coefficients) h

@@ -15,7 +15,6 @@ use Rattle.refusal.specs.Range.{oneTo}
 use Rattle.refusal.specs.Large.{firstLarge}
 use Rattle.refusal.proofs.Outcome.{passed, then-passed}
 use Rattle.refusal.proofs.Range.{one-to-range}
-use Rattle.field.proofs.Polynomial.{length-exponents-4}
 use Rattle.steps.specs.declared.counts.Counts.{Counts}
 use Rattle.steps.specs.Sharing.{share}
 use Rattle.steps.specs.Tape.{elements, bytesFor, Full}
@@ -24,8 +23,8 @@ use Rattle.steps.specs.Call.{callCounts, callResult, Takes}
 use Rattle.steps.proofs.Tape.{elements-nibbles}
 use Rattle.steps.proofs.Call as call
 use Rattle.steps.proofs.Fill.{tabulate-same}
-use Rattle.decomposition.specs.Layout.{layout, sized, termsOf}
-use Rattle.decomposition.specs.Record.{widthOf, readOutcome, Accepted}
+use Rattle.decomposition.specs.Layout.{layout, sized, recordSize}
+use Rattle.decomposition.specs.Record.{coefficientsOf, widthOf, readOutcome, Accepted}
 use Rattle.decomposition.specs.Check.{recordForm, firstDifference, checkOutcome}
 use Rattle.decomposition.proofs.ReadOutcome.{read-values, read-accepted}
 use Rattle.sbox.proofs.Record.{accepted-record}
@@ -148,12 +147,11 @@ module _ {r : List ℕ} {s : ℕ} {key block random : List ℕ} (a : Callable r 
   accepted = read-accepted r 4 (a .present .read)
 
   -- it is as long as the code asks
-  pub record-room : 33 ≤ length r
-  unfolding layout sized termsOf
-  record-room = omega (arith, accepted .whole, length-exponents-4)
+  pub record-room : recordSize (layout 4) ≤ length r
+  record-room = omega (arith, accepted .whole)
 
   -- the S-box takes sharings of nibbles to sharings of nibbles
-  pub call-closed : Small 8 random → Closed s (elements 4 random) (recordSbox s r)
+  pub call-closed : Small 8 random → Closed s (elements 4 random) (recordSbox s (coefficientsOf r))
   call-closed hr =
       let tape = elements 4 random in
       let coefficients = accepted-record 4 r accepted in

@@ -1,19 +1,15 @@
 -- The S-box on a nibble of each share: what it takes, what it gives, and what that comes to on the machine.
 use mathlib.Core.Path.{_≡_, refl, ap, _∙_}
 use mathlib.Core.List.{List, map}
-use Prim.Native.Nat.{ℕ, _+_, _*_, _≤_}
+use Prim.Native.Nat.{ℕ, _≤_}
 use lib.ListN.{length, drop}
 use Rattle.xor.specs.Sum.{join}
 use Rattle.xor.proofs.Sum.{additive-below-zero}
-use Rattle.field.specs.Polynomial.{exponents}
-use Rattle.field.proofs.Polynomial.{length-exponents-4}
 use Rattle.steps.specs.declared.counts.Counts.{Counts}
 use Rattle.steps.specs.Program.{Run, return, result}
 use Rattle.steps.specs.Sharing.{share, Sharing}
 use Rattle.steps.specs.Machine.{Ready, Went}
 use Rattle.steps.proofs.Machine.{exec-whole}
-use Rattle.decomposition.specs.Layout.{termsOf}
-use Rattle.sbox.specs.Form.{basisSize}
 use Rattle.present.specs.Present.{nibble, replace}
 use Rattle.present.specs.Masked.{maskedNibble}
 use Rattle.steps.specs.Sharing.{shareWise}
@@ -23,11 +19,6 @@ use Rattle.steps.specs.ShareBytes.{shareAt, sharesOf, sharing}
 use Rattle.steps.proofs.View.{share-past}
 use Rattle.cipher.specs.Rounds.{Closed}
 use Rattle.steps.proofs.Parts.{ready-first, went-map}
-
--- a record of width 4 has 33 bytes
-pub record-bytes : {n : ℕ} → 33 ≤ n → 6 + (basisSize 4 + (basisSize 4 + 1)) * length (exponents 4) ≤ n
-unfolding basisSize termsOf
-record-bytes h = rw length-exponents-4 h
 
 -- nibble k of each share is a sharing of a nibble
 pub column-sharing : (w s k : ℕ) (l : List ℕ) → s ≤ 9 → let a = map (nibble k) (sharing w s l) in Sharing 4 s (join a) a

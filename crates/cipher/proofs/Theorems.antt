@@ -1,6 +1,6 @@
 -- What is proved of the masked block, with any record of PRESENT's table and 1 to 9 shares: what its shares join to, what it takes, and what a watch
 -- can learn.
-use mathlib.Core.Path.{_≡_, refl, sym, ap, _∙_}
+use mathlib.Core.Path.{_≡_, sym, ap, _∙_}
 use mathlib.Core.List.{List, _∷_, _++_}
 use Prim.Native.Nat.{ℕ, _+_, _-_, _*_, _≤_, _<_}
 use native.Mathlib.Nat.{mul-sub, mul-one, mul-le-mul-left}
@@ -19,8 +19,7 @@ use Rattle.steps.specs.Call.{Takes}
 use Rattle.steps.proofs.Shape.{shaped-result, shaped-draws}
 use Rattle.steps.proofs.Call.{takes-shape}
 use Rattle.steps.proofs.TwoSecrets.{two-trace}
-use Rattle.sbox.specs.Figures.{sboxProducts, sboxDraws, sboxSteps}
-use Rattle.sbox.proofs.Counts.{sbox-steps, sbox-draws, sbox-products, uniform-sbox}
+use Rattle.sbox.proofs.Counts.{sbox-steps, sbox-draws, sbox-products, figures-4, uniform-sbox}
 use Rattle.present.specs.Present.{size80, State, encrypt}
 use Rattle.present.specs.Masked.{blockShape}
 use Rattle.present.specs.Experiment.{Secret}
@@ -30,6 +29,7 @@ use Rattle.present.proofs.Joined.{encrypt-joins}
 use Rattle.present.proofs.Counts.{block-steps, block-draws, block-products, block-bits}
 use Rattle.present.proofs.Secrecy as present
 use Rattle.present.proofs.Secrecy.{block-untouched-share, block-few-steps, choice-bits}
+use Rattle.decomposition.specs.Record.{coefficientsOf}
 use Rattle.cipher.specs.Box.{recordSbox, blockProgram}
 use Rattle.cipher.specs.Figures.{blockProducts, blockDraws, blockSteps}
 use Rattle.cipher.specs.Experiment.{PresentRecord, boxShape, experiment, blockInputs}
@@ -38,16 +38,16 @@ use Rattle.cipher.proofs.Box.{substitutes, hides}
 -- ---- the figures
 
 box-steps : (s : ℕ) → stepsOf (boxShape s) ≡ 57 * s + 7 * (s * (s - 1))
-unfolding boxShape sboxSteps
-box-steps s = sbox-steps 4 s refl
+unfolding boxShape
+box-steps s = sbox-steps 4 s ∙ figures-4 s .2
 
 box-draws : (s : ℕ) → drawsOf (boxShape s) ≡ s * (s - 1)
-unfolding boxShape sboxDraws
-box-draws s = sbox-draws 4 s refl
+unfolding boxShape
+box-draws s = sbox-draws 4 s ∙ figures-4 s .1
 
 box-products : (s : ℕ) → productsOf (boxShape s) ≡ 2
-unfolding boxShape sboxProducts
-box-products s = sbox-products 4 s refl
+unfolding boxShape
+box-products s = sbox-products 4 s ∙ figures-4 s .0
 
 -- the shape of a block has as many steps, draws and products as the paper says
 pub steps-of-block : (s : ℕ) → 0 < s → stepsOf (blockShape size80 s (boxShape s)) ≡ blockSteps s
@@ -83,7 +83,7 @@ module _ (r : List ℕ) (accepted : PresentRecord r) (s : ℕ) (some : 0 < s) (n
 
   module _ (k x : ℕ) (ks xs random : List ℕ) (key : Sharing 80 s k ks) (block : Sharing 64 s x xs) (elements : Small 4 random) where
     shaped : Shaped (Sharing 64 s (encrypt size80 k x)) (blockShape size80 s (boxShape s)) (blockProgram r s ks xs)
-    shaped = encrypt-joins s (boxShape s) (recordSbox s r) (substitutes r accepted s some nine) some size80 sound80 k x ks xs key block
+    shaped = encrypt-joins s (boxShape s) (recordSbox s (coefficientsOf r)) (substitutes r accepted s some nine) some size80 sound80 k x ks xs key block
 
     fits : Fits (bitsOf (blockShape size80 s (boxShape s))) random
     fits = rw (bits-of-block s) (fits-small 4 (blockDraws s) random elements)
@@ -118,7 +118,7 @@ module _ (r : List ℕ) (accepted : PresentRecord r) (s : ℕ) (some : 0 < s) (n
       → draws (experiment r s a) tape ≡ choiceBits (blockInputs s)
   unfolding experiment
   experiment-draws =
-      rw (choice-is s) at (present.experiment-draws (recordSbox s r) size80 sound80 s (boxShape s) (substitutes r accepted s some nine) some)
+      rw (choice-is s) at (present.experiment-draws (recordSbox s (coefficientsOf r)) size80 sound80 s (boxShape s) (substitutes r accepted s some nine) some)
 
   -- FEW STEPS. If the list has at most t different numbers, and s is at least 2 t + 1, then for any two keys and blocks and each list of values equally
   -- many choices show these values at the steps of the list.
@@ -128,7 +128,7 @@ module _ (r : List ℕ) (accepted : PresentRecord r) (s : ℕ) (some : 0 < s) (n
   unfolding experiment
   few-steps =
       rw (choice-is s) at
-      (block-few-steps (recordSbox s r) size80 sound80 s (boxShape s) (substitutes r accepted s some nine) (λ u h. hides r accepted s u))
+      (block-few-steps (recordSbox s (coefficientsOf r)) size80 sound80 s (boxShape s) (substitutes r accepted s some nine) (λ u h. hides r accepted s u))
 
   -- AN UNTOUCHED SHARE. The same holds of a list of any number of steps, if there is a share u that none of them touches.
   pub untouched-share : (u : ℕ) → u < s → (list : List ℕ) → Misses u (touchesOf (blockShape size80 s (boxShape s))) list
@@ -137,4 +137,4 @@ module _ (r : List ℕ) (accepted : PresentRecord r) (s : ℕ) (some : 0 < s) (n
   unfolding experiment
   untouched-share u h =
       rw (choice-is s) at
-      (block-untouched-share (recordSbox s r) size80 sound80 s (boxShape s) (substitutes r accepted s some nine) u h (hides r accepted s u))
+      (block-untouched-share (recordSbox s (coefficientsOf r)) size80 sound80 s (boxShape s) (substitutes r accepted s some nine) u h (hides r accepted s u))

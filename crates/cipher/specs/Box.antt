@@ -2,15 +2,16 @@
 use mathlib.Core.List.{List}
 use Prim.Native.Nat.{ℕ}
 use Rattle.steps.specs.Program.{Run}
+use Rattle.decomposition.specs.Record.{coefficientsOf}
 use Rattle.sbox.specs.Sbox.{sbox}
-use Rattle.sbox.specs.Polynomials.{basisIn, solutionIn}
+use Rattle.sbox.specs.Form.{basisIn, solutionIn}
 use Rattle.present.specs.Present.{size80}
 use Rattle.present.specs.Masked.{maskedEncrypt}
 
--- the program of the S-box of a record, for s shares
+-- the program of the S-box by a record's coefficients, for s shares
 abbrev pub recordSbox : ℕ → List ℕ → List ℕ → Run (List ℕ)
-recordSbox s rec = sbox 4 s (basisIn 4 rec) (solutionIn 4 rec)
+recordSbox s coefficients = sbox 4 s (basisIn 4 coefficients) (solutionIn 4 coefficients)
 
 -- the masked block: the steps of a call with the key shares ks and the block shares xs
 abbrev pub blockProgram : List ℕ → ℕ → List ℕ → List ℕ → Run (List ℕ)
-blockProgram r s ks xs = maskedEncrypt (recordSbox s r) size80 s ks xs
+blockProgram r s ks xs = maskedEncrypt (recordSbox s (coefficientsOf r)) size80 s ks xs

@@ -6,7 +6,7 @@ use Rattle.refusal.specs.Outcome.{done}
 use Rattle.steps.specs.Program.{Run}
 use Rattle.steps.specs.Shape.{Shape}
 use Rattle.steps.specs.Settled.{string, Inputs}
-use Rattle.decomposition.specs.Record.{readOutcome}
+use Rattle.decomposition.specs.Record.{coefficientsOf, readOutcome}
 use Rattle.decomposition.specs.Check.{checkOutcome}
 use Rattle.sbox.specs.Shape.{sboxShape}
 use Rattle.sbox.specs.Form.{basisSize}
@@ -26,7 +26,7 @@ boxShape s = sboxShape 4 s (basisSize 4)
 
 -- the experiment: shares 1 to s - 1 of the key and of the block are drawn, share 0 of each is the secret plus these, and the block is run
 unfoldable pub experiment : List ℕ → ℕ → State ℕ → Run (List ℕ)
-experiment r s a = present.experiment (recordSbox s r) size80 s a
+experiment r s a = present.experiment (recordSbox s (coefficientsOf r)) size80 s a
 
 -- the inputs of a call: a key of 10 bytes and a block of 8 in s shares each, and random elements of 4 bits
 abbrev pub blockInputs : ℕ → Inputs

@@ -2,6 +2,8 @@
 ghost use Prim.Native.Nat.{_*_, _<_, _≤_};
 ghost use mathlib.Core.Path.{_≡_};
 ghost use lib.ListN.{length};
+ghost use Rattle.decomposition.specs.Layout.{layout, recordSize};
+ghost use Rattle.decomposition.specs.Record.{coefficientsOf};
 ghost use Rattle.steps.specs.Tape.{elements};
 ghost use Rattle.steps.specs.Machine.{zeroCounts, Ready, Went};
 ghost use Rattle.steps.specs.ShareBytes.{sharing, ZeroPast};
@@ -11,6 +13,7 @@ ghost use Rattle.cipher.specs.Operations.{callProgram};
 use crate::linear_parts::add_round_key;
 use crate::rounds::RoundState;
 use crate::rounds::rounds;
+use decomposition::layouts::HEAD;
 use steps::Counts;
 
 // The sharing of a block, with what the run has taken.
@@ -45,8 +48,8 @@ pub fn encrypt(
     watch: &[u32],
     values: &mut [u8],
 ) -> Encrypted
-    requires { ⌜ (0 < s) × (s ≤ 9) × (33 ≤ length (now rec)) × (length (now key) ≡ 10 * s) × (length (now block) ≡ 8 * s) ⌝ }
-    requires { ⌜ Closed s (elements 4 (now random)) (recordSbox s (now rec)) ⌝ }
+    requires { ⌜ (0 < s) × (s ≤ 9) × (recordSize (layout 4) ≤ length (now rec)) × (length (now key) ≡ 10 * s) × (length (now block) ≡ 8 * s) ⌝ }
+    requires { ⌜ Closed s (elements 4 (now random)) (recordSbox s (coefficientsOf (now rec))) ⌝ }
     requires { ⌜ Ready (elements 4 (now random)) (now watch)
         (callProgram (now rec) s (now key) (now block)) zeroCounts (now values) ⌝ }
     ensures { λ r. ⌜ Went (elements 4 (now (random .entry))) (now (watch .entry))
@@ -54,8 +57,9 @@ pub fn encrypt(
         zeroCounts (now (values .entry)) (sharing 8 s (r .block)) (r .counts) (now (values .exit)) ⌝ }
     ensures { λ r. ⌜ ZeroPast 8 s (r .block) ⌝ }
 {
+    let coefficients = &rec[HEAD..];
     let t = load(key, block);
-    let t = rounds(s, rec, random, watch, &mut *values, t);
+    let t = rounds(s, coefficients, random, watch, &mut *values, t);
     let k = t.key;
     let mut b = t.block;
     let n = t.counts;

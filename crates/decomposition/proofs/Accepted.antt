@@ -3,15 +3,15 @@ use mathlib.Core.List.{List, [], _∷_}
 use mathlib.Core.Path.{_≡_, refl, _∙_, ap}
 use Prim.Native.Nat.{ℕ, _+_, _≤_, _<_, _^_}
 use native.Mathlib.Omega.{arith}
-use lib.ListN.{length, getD, drop, length-append}
+use lib.ListN.{length, getD, length-append}
 use borrow.Author.Tests.{le-leb, eq-eqb}
 use Rattle.xor.specs.Sum.{Small}
 use Rattle.refusal.specs.Large.{firstLarge}
 use Rattle.refusal.specs.Outcome.{done, Outcome, andThen}
 use Rattle.decomposition.specs.Check.{checkAt, checkOutcome, firstDifference, recordForm}
 use Rattle.decomposition.specs.Form.{form}
-use Rattle.decomposition.specs.Layout.{Sizes, layout, Known}
-use Rattle.decomposition.specs.Record.{readOutcome, recordOf}
+use Rattle.decomposition.specs.Layout.{head, Sizes, layout, recordSize, Known}
+use Rattle.decomposition.specs.Record.{coefficientsOf, readOutcome, recordOf}
 use Rattle.decomposition.proofs.Differences.{no-difference}
 use Rattle.decomposition.proofs.Record.{record-entries, record-length, record-marked, record-width, record-form}
 use Rattle.decomposition.proofs.Sizes.{layout-width, sizes}
@@ -25,7 +25,7 @@ module _ (n : ℕ) (w : Known n) (basis p : List ℕ) (eb : length basis ≡ lay
   z : Sizes (layout n)
   z = sizes n w
 
-  length-r : length r ≡ 6 + (length basis + length p)
+  length-r : length r ≡ head + (length basis + length p)
   unfolding r
   length-r = record-length (layout n .width) basis p
 
@@ -33,7 +33,7 @@ module _ (n : ℕ) (w : Known n) (basis p : List ℕ) (eb : length basis ≡ lay
   unfolding r
   width-r = record-width (layout n .width) basis p ∙ layout-width n
 
-  none-r : length (drop 6 r) ≤ firstLarge (layout n .inputs) (drop 6 r)
+  none-r : length (coefficientsOf r) ≤ firstLarge (layout n .inputs) (coefficientsOf r)
   unfolding r
   none-r =
       rw (record-entries (layout n .width) basis p)
@@ -45,12 +45,12 @@ module _ (n : ℕ) (w : Known n) (basis p : List ℕ) (eb : length basis ≡ lay
   unfolding readOutcome r
   written-read =
       rw (
-        le-leb 6 (length r) (omega (arith, length-r)),
+        le-leb head (length r) (omega (arith, length-r)),
         record-marked (layout n .width) basis p,
         width-r,
         w,
-        eq-eqb (length r) (layout n .size) (omega (arith, length-r, eb, ep, z .solution, z .whole)),
-        le-leb (length (drop 6 r)) (firstLarge (layout n .inputs) (drop 6 r)) none-r,
+        eq-eqb (length r) (recordSize (layout n)) (omega (arith, length-r, eb, ep, z .coefficients)),
+        le-leb (length (coefficientsOf r)) (firstLarge (layout n .inputs) (coefficientsOf r)) none-r,
         layout-width n,
       ) refl
 
@@ -61,7 +61,7 @@ module _ (n : ℕ) (w : Known n) (basis p : List ℕ) (eb : length basis ≡ lay
     unfolding r
     agrees =
         no-difference (recordForm (layout n) (recordOf (layout n) basis p)) table
-        (λ x h. record-form z basis p eb x ∙ equal x (omega (arith, h, et, z .inputs)))
+        (λ x h. record-form (layout n) basis p eb x ∙ equal x (omega (arith, h, et, z .inputs)))
 
     pub written-check : checkOutcome (recordOf (layout n) basis p) table ≡ done []
     unfolding checkOutcome r

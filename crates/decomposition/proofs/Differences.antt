@@ -1,4 +1,4 @@
--- The form of a record from its bytes, and the first input at which it differs from a table.
+-- The form of a record from its coefficients, and the first input at which it differs from a table.
 use mathlib.Core.List.{List, _∷_, []}
 use mathlib.Core.Path.{_≡_, refl, sym, ap, ap₂, _∙_, fun-ext}
 use Prim.Native.Nat.{ℕ, suc, _+_, _-_, _*_, _<_, _≤_, zero}
@@ -15,7 +15,7 @@ use Rattle.linear.specs.Buffer.{from}
 use Rattle.linear.specs.Row.{Agree, dot}
 use Rattle.linear.specs.Scalars.{scalars}
 use Rattle.linear.proofs.Row.{dot-agree}
-use Rattle.decomposition.specs.Check.{firstDifference, recordProducts}
+use Rattle.decomposition.specs.Check.{firstDifference, productsIn}
 use Rattle.decomposition.specs.Form.{monomial, valueOf}
 use Rattle.decomposition.specs.Layout.{Sizes}
 use Rattle.decomposition.specs.Record.{basisOf, solutionOf}
@@ -25,36 +25,34 @@ use Rattle.decomposition.proofs.Value.{value-dot}
 
 -- ---- the form of a record
 
--- the products p1·q1, .. of a record, by the places of its polynomials
+-- the products p1·q1, .. of a record's coefficients, by the places of its polynomials
 abbrev pub productAt : ℕ → ℕ → ℕ → List ℕ → List ℕ → ℕ → ℕ
-productAt n e start r powers i =
-    mul n (dot (scalars n) e (from r (start + i * e)) (from powers 0)) (dot (scalars n) e (from r (6 + i * e)) (from powers 0))
+productAt n e start cs powers i =
+    mul n (dot (scalars n) e (from cs (start + i * e)) (from powers 0)) (dot (scalars n) e (from cs (i * e)) (from powers 0))
 
-module _ {L : Layout} (z : Sizes L) (r powers : List ℕ) (x : ℕ) (a : Agree (L .exponents) (from powers 0) (monomial (L .width) x)) where
-  pub solution-value : (i : ℕ) → dot (scalars (L .width)) (L .exponents) (from r (L .start + i * L .exponents)) (from powers 0) ≡ valueOf L
-      (solutionOf L r) i x
+module _ {L : Layout} (z : Sizes L) (cs powers : List ℕ) (x : ℕ) (a : Agree (L .exponents) (from powers 0) (monomial (L .width) x)) where
+  pub solution-value : (i : ℕ) → dot (scalars (L .width)) (L .exponents) (from cs (L .basis + i * L .exponents)) (from powers 0)
+      ≡ valueOf L (solutionOf L cs) i x
   solution-value i =
       dot-agree (scalars (L .width)) (L .exponents)
       (record {
         at = λ j h.
-            ap (λ (k : ℕ). getD r k 0) (add-assoc (L .start) (i * L .exponents) j) ∙ sym (getD-drop (L .start) r (i * L .exponents + j) 0);
+            ap (λ (k : ℕ). getD cs k 0) (add-assoc (L .basis) (i * L .exponents) j) ∙ sym (getD-drop (L .basis) cs (i * L .exponents + j) 0);
       })
       a
-      ∙ sym (value-dot z (solutionOf L r) i x)
+      ∙ sym (value-dot z (solutionOf L cs) i x)
 
   basis-value : (i : ℕ) → suc i < L .terms
-      → dot (scalars (L .width)) (L .exponents) (from r (6 + i * L .exponents)) (from powers 0) ≡ valueOf L (basisOf L r) i x
+      → dot (scalars (L .width)) (L .exponents) (from cs (i * L .exponents)) (from powers 0) ≡ valueOf L (basisOf L cs) i x
   basis-value i l =
       dot-agree (scalars (L .width)) (L .exponents)
       (record {
-        at = λ j h.
-            ap (λ (k : ℕ). getD r k 0) (add-assoc 6 (i * L .exponents) j)
-            ∙ sym (getD-take (L .basis) (drop 6 r) (i * L .exponents + j) 0 (omega (arith, basis-room z l)) ∙ getD-drop 6 r (i * L .exponents + j) 0);
+        at = λ j h. sym (getD-take (L .basis) cs (i * L .exponents + j) 0 (omega (arith, basis-room z l)));
       })
       a
-      ∙ sym (value-dot z (basisOf L r) i x)
+      ∙ sym (value-dot z (basisOf L cs) i x)
 
-  pub products-record : sumOf (L .terms - 1) (productAt (L .width) (L .exponents) (L .start) r powers) ≡ recordProducts L r x (L .terms - 1)
+  pub products-record : sumOf (L .terms - 1) (productAt (L .width) (L .exponents) (L .basis) cs powers) ≡ productsIn L cs x (L .terms - 1)
   products-record = sum-of-same (L .terms - 1) (λ i l. ap₂ (mul (L .width)) (solution-value i) (basis-value i (omega arith)))
 
 -- ---- the first difference

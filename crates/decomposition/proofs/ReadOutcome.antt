@@ -2,10 +2,9 @@
 use mathlib.Core.List.{List, [], _∷_}
 use mathlib.Core.Path.{_≡_, refl, sym, ap, subst, _∙_}
 use Prim.Native.Nat.{ℕ, _+_, _^_}
-use native.Mathlib.Nat.{add-assoc}
 use native.Mathlib.Omega.{arith}
 use lib.Dec.{leb, eqb}
-use lib.ListN.{length, getD, drop, length-drop}
+use lib.ListN.{length, getD, length-drop}
 use lib.Pow.{pow-pos}
 use lib.Seq.{getD-drop}
 use borrow.Author.Tests.{eqb-true, leb-true, eq-eqb, le-leb}
@@ -15,8 +14,8 @@ use Rattle.refusal.proofs.Large.{all-small, none-large}
 use Rattle.refusal.proofs.Outcome.{passed, done-values}
 use Rattle.decomposition.specs.Check.{checkAt, firstDifference, recordForm}
 use Rattle.decomposition.specs.Form.{Computes}
-use Rattle.decomposition.specs.Layout.{known, layout, Sizes}
-use Rattle.decomposition.specs.Record.{Accepted, marked, readOutcome, basisOf, solutionOf}
+use Rattle.decomposition.specs.Layout.{known, head, layout, recordSize}
+use Rattle.decomposition.specs.Record.{Accepted, marked, coefficientsOf, readOutcome, basisOf, solutionOf}
 use Rattle.decomposition.proofs.Differences.{difference-none}
 use Rattle.decomposition.proofs.Sizes.{layout-width, sizes}
 
@@ -25,21 +24,21 @@ pub read-values : (r : List ℕ) {values : List ℕ} → readOutcome r ≡ done 
 unfolding readOutcome
 read-values r h =
     let n = getD r 5 0 in
-    let a = passed (leb 6 (length r)) 2 0 _ h in
+    let a = passed (leb head (length r)) 2 0 _ h in
     let b = passed (marked r) 5 0 _ (a .1) in
     let c = passed (known n) 1 0 _ (b .1) in
-    let d = passed (eqb (length r) (layout n .size)) 2 0 _ (c .1) in
+    let d = passed (eqb (length r) (recordSize (layout n))) 2 0 _ (c .1) in
     let bound = layout n .inputs in
-    let e = passed (leb (length (drop 6 r)) (firstLarge bound (drop 6 r))) 3 (6 + firstLarge bound (drop 6 r)) _ (d .1) in
+    let e = passed (leb (length (coefficientsOf r)) (firstLarge bound (coefficientsOf r))) 3 (head + firstLarge bound (coefficientsOf r)) _ (d .1) in
     let i : bound ≡ 2 ^ n = sizes n (c .0) .inputs ∙ ap (λ (k : ℕ). 2 ^ k) (layout-width n) in (
       record {
         mark = b .0;
         width = c .0;
         named = refl;
-        whole = eqb-true (length r) (layout n .size) (d .0);
+        whole = eqb-true (length r) (recordSize (layout n)) (d .0);
         elements = λ k.
             rw (← i)
-            (all-small bound (drop 6 r) (omega (arith, i, pow-pos n)) (leb-true (length (drop 6 r)) (firstLarge bound (drop 6 r)) (e .0)) k);
+            (all-small bound (coefficientsOf r) (omega (arith, i, pow-pos n)) (leb-true (length (coefficientsOf r)) (firstLarge bound (coefficientsOf r)) (e .0)) k);
       },
       ap (λ (k : ℕ). k ∷ []) (sym (layout-width n)) ∙ done-values (e .1),
     )
@@ -58,18 +57,18 @@ accepted-read r n a =
     let z = sizes n (a .width) in
     let i : 2 ^ n ≡ L .inputs = ap (λ (k : ℕ). 2 ^ k) (sym (layout-width n)) ∙ sym (z .inputs) in
     rw (
-      le-leb 6 (length r) (omega (arith, a .whole, z .whole, z .solution)),
+      le-leb head (length r) (omega (arith, a .whole)),
       a .mark,
       a .named,
       a .width,
-      eq-eqb (length r) (L .size) (a .whole),
-      le-leb (length (drop 6 r)) (firstLarge (L .inputs) (drop 6 r)) (none-large (L .inputs) (drop 6 r) (λ k. rw (← i) (a .elements k))),
+      eq-eqb (length r) (recordSize L) (a .whole),
+      le-leb (length (coefficientsOf r)) (firstLarge (L .inputs) (coefficientsOf r)) (none-large (L .inputs) (coefficientsOf r) (λ k. rw (← i) (a .elements k))),
       layout-width n,
     ) refl
 
 -- where Check's tests of the table are passed too, its form computes the table
 pub accepted-computes : (n : ℕ) (r table : List ℕ) → Accepted n r → checkAt (layout n) r table ≡ done []
-    → Computes (layout n) table (basisOf (layout n) r) (solutionOf (layout n) r)
+    → Computes (layout n) table (basisOf (layout n) (coefficientsOf r)) (solutionOf (layout n) (coefficientsOf r))
 accepted-computes n r table x h =
     let L = layout n in
     let z = sizes n (x .width) in
@@ -78,14 +77,8 @@ accepted-computes n r table x h =
     let b = passed (leb (length table) (firstLarge (L .inputs) table)) 3 (0 + firstLarge (L .inputs) table) _ (a .1) in
     let c = passed (leb (length table) first) 6 first _ (b .1) in
     record {
-      unknowns = length-drop (L .start) r ∙ omega (arith, x .whole, z .whole);
-      elements = λ k. rw (layout-width n, solution-entry z k) (x .elements (L .basis + k));
+      unknowns = length-drop (L .basis) (coefficientsOf r) ∙ omega (arith, length-drop head r, x .whole, z .coefficients);
+      elements = λ k. rw (layout-width n, getD-drop (L .basis) (coefficientsOf r) k 0) (x .elements (L .basis + k));
       equal = λ y l. difference-none (recordForm L r) table (leb-true (length table) first (c .0)) y
           (omega (arith, eqb-true (length table) (L .inputs) (a .0), z .inputs));
     }
-  where
-    solution-entry : Sizes (layout n) → (k : ℕ) → getD (drop (layout n .start) r) k 0 ≡ getD (drop 6 r) (layout n .basis + k) 0
-    solution-entry z k =
-        getD-drop (layout n .start) r k 0
-        ∙ ap (λ (j : ℕ). getD r j 0) (ap (λ (j : ℕ). j + k) (z .solution) ∙ add-assoc 6 (layout n .basis) k)
-        ∙ sym (getD-drop 6 r (layout n .basis + k) 0)

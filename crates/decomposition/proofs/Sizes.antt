@@ -14,7 +14,7 @@ use Rattle.field.specs.Polynomial.{exponents}
 use Rattle.field.proofs.Polynomial.{length-exponents-4, length-exponents-6}
 use Rattle.field.proofs.Turns.{width-le}
 use Rattle.linear.proofs.Buffer.{row-room}
-use Rattle.decomposition.specs.Layout.{termsOf, sized, layout, Sizes, Known}
+use Rattle.decomposition.specs.Layout.{termsOf, sized, layout, recordSize, Sizes, Known}
 use Rattle.decomposition.specs.declared.layouts.Layout.{Layout}
 
 -- ---- the widths
@@ -66,8 +66,7 @@ sizes n k =
       listed = refl;
       unknowns = refl;
       basis = one-less (length (exponents n)) (termsOf n) (f .3);
-      solution = refl;
-      whole = refl;
+      coefficients = refl;
       powers = refl;
       work = refl;
       byte = f .0;
@@ -78,11 +77,11 @@ sizes n k =
     }
 
 -- the numbers that the paper names: the lengths of a record and of the work of a fit
-pub sizes-4 : (layout 4 .size ≡ 33) × (layout 4 .work ≡ 448)
+pub sizes-4 : (recordSize (layout 4) ≡ 33) × (layout 4 .work ≡ 448)
 unfolding layout sized termsOf
 sizes-4 = rw length-exponents-4 (refl, refl)
 
-pub sizes-6 : (layout 6 .size ≡ 139) × (layout 6 .work ≡ 6144)
+pub sizes-6 : (recordSize (layout 6) ≡ 139) × (layout 6 .work ≡ 6144)
 unfolding layout sized termsOf
 sizes-6 = rw length-exponents-6 (refl, refl)
 
@@ -95,6 +94,9 @@ layout-width n = refl
 module _ {L : Layout} (z : Sizes L) where
   pub unknowns-few : L .unknowns ≤ 217
   unknowns-few = rw (z .unknowns) (mul-le-mul {n₂ = 7} {m₂ = 31} (omega (arith, z .few-terms)) (omega (arith, z .few-exponents)))
+
+  pub coefficients-few : L .coefficients ≤ 434
+  coefficients-few = omega (arith, z .coefficients, z .basis, unknowns-few)
 
   pub inputs-few : L .inputs * L .exponents ≤ 7936
   inputs-few = mul-le-mul {n₂ = 256} {m₂ = 31} (omega (arith, z .byte)) (omega (arith, z .few-exponents))

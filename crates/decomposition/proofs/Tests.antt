@@ -8,6 +8,7 @@ use lib.Seq.{take-length}
 use lib.Dec.{eqb}
 use borrow.Author.Tests.{eqb-true}
 use Rattle.decomposition.specs.Fit.{fitLengths}
+use Rattle.decomposition.specs.Layout.{recordSize}
 use Rattle.decomposition.specs.declared.layouts.Layout.{Layout}
 
 -- all from place k on
@@ -16,7 +17,7 @@ whole-part k l = ap (λ (j : ℕ). take j (drop k l)) (sym (length-drop k l)) �
 
 -- the lengths that Fit takes
 pub fit-lengths : (L : Layout) (table basis work out : ℕ) → fitLengths L table basis work out ≡ true
-    → (table ≡ L .inputs) × (basis ≡ L .basis) × (work ≡ L .work) × (out ≡ L .size)
+    → (table ≡ L .inputs) × (basis ≡ L .basis) × (work ≡ L .work) × (out ≡ recordSize L)
 unfolding fitLengths
 fit-lengths L table basis work out e =
     let a = and-eq-true-iff (eqb table (L .inputs)) _ .0 e in

@@ -14,7 +14,7 @@ use Rattle.decomposition.specs.Check.{checkOutcome, checkAt}
 use Rattle.decomposition.specs.Fit.{FitCall, FitEnd, fitLengths, allTests, fitOutcome, fitWork, fitRecord, fitEnd, houseBasis, houseCall, Found, AfterTests, IsFit}
 use Rattle.decomposition.specs.Form.{Computes, Decomposition, form}
 use Rattle.decomposition.specs.Layout.{known, layout, sized, termsOf, Known}
-use Rattle.decomposition.specs.Record.{basisOf, readOutcome, recordOf, solutionOf}
+use Rattle.decomposition.specs.Record.{basisOf, coefficientsOf, readOutcome, recordOf, solutionOf}
 use Rattle.decomposition.proofs.Accepted.{written-check, written-read}
 use Rattle.decomposition.proofs.Decomposition.{decomposition-exists, decomposition-unique, zero-decomposition}
 use Rattle.decomposition.proofs.ReadOutcome.{read-values, accepted-computes}
@@ -102,12 +102,12 @@ module _ (n : ℕ) (c : FitCall) {values : List ℕ} (f : fitOutcome n c ≡ don
 
 -- the form of a record that Check accepts computes the table
 pub check-computes : (r table : List ℕ) → checkOutcome r table ≡ done []
-    → let L = layout (getD r 5 0) in Computes L table (basisOf L r) (solutionOf L r)
+    → let L = layout (getD r 5 0) in Computes L table (basisOf L (coefficientsOf r)) (solutionOf L (coefficientsOf r))
 unfolding checkOutcome
 check-computes r table = go (readOutcome r) refl
   where
     go : (T : Outcome) → readOutcome r ≡ T → let L = layout (getD r 5 0) in
-        andThen T (checkAt L r table) ≡ done [] → Computes L table (basisOf L r) (solutionOf L r)
+        andThen T (checkAt L r table) ≡ done [] → Computes L table (basisOf L (coefficientsOf r)) (solutionOf L (coefficientsOf r))
     go (refused number place) e h = absurd (let q : _≡_ {A = ℕ} 0 1 = cc in omega arith)
     go (done values) e h = accepted-computes (getD r 5 0) r table (read-values r e .0) h
 

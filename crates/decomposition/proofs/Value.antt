@@ -15,7 +15,7 @@ use Rattle.linear.specs.Row.{dot}
 use Rattle.linear.specs.Scalars.{scalars}
 use Rattle.linear.proofs.Row.{dot-agree, dot-cons, dot-none}
 use Rattle.linear.proofs.Scalars.{scalar-laws}
-use Rattle.decomposition.specs.Form.{monomial, polynomial, valueOf}
+use Rattle.decomposition.specs.Form.{monomial, polynomialIn, valueOf}
 use Rattle.decomposition.specs.Layout.{Sizes}
 use Rattle.decomposition.specs.declared.layouts.Layout.{Layout}
 
@@ -44,8 +44,8 @@ value-dot {L} z l i x =
     let n = L .width in
     let e = L .exponents in
     let powers : List ℕ = map (pow n x) (exponents n) in
-    combination-dot (field-of n (narrow-width n (z .width))) (polynomial L l i) powers
-    ∙ ap (λ (k : ℕ). dot (scalars n) k (λ j. getD (polynomial L l i) j 0) (λ j. getD powers j 0)) (length-map (pow n x) (exponents n) ∙ z .listed)
+    combination-dot (field-of n (narrow-width n (z .width))) (polynomialIn L l i) powers
+    ∙ ap (λ (k : ℕ). dot (scalars n) k (λ j. getD (polynomialIn L l i) j 0) (λ j. getD powers j 0)) (length-map (pow n x) (exponents n) ∙ z .listed)
     ∙ dot-agree (scalars n) e
     (record { at = λ j h. getD-take e (drop (i * e) l) j 0 h ∙ getD-drop (i * e) l j 0 })
     (record { at = λ j h. getD-map (pow n x) (exponents n) j (omega (arith, z .listed)) })

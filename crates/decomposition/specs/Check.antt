@@ -10,18 +10,22 @@ use Rattle.refusal.specs.Large.{testBelow}
 use Rattle.field.specs.Mul.{mul}
 use Rattle.decomposition.specs.Form.{form, valueOf}
 use Rattle.decomposition.specs.Layout.{layout}
-use Rattle.decomposition.specs.Record.{basisOf, solutionOf, widthOf, readOutcome}
+use Rattle.decomposition.specs.Record.{coefficientsOf, basisOf, solutionOf, widthOf, readOutcome}
 use Rattle.decomposition.specs.declared.checking.CheckAnswer.{CheckAnswer}
 use Rattle.decomposition.specs.declared.checking.CheckAnswer.the-variants.{Done, Refused}
 use Rattle.decomposition.specs.declared.layouts.Layout.{Layout}
 
+-- the form of a record's coefficients at x
+abbrev pub formIn : Layout → List ℕ → ℕ → ℕ
+formIn L coefficients = form L (basisOf L coefficients) (solutionOf L coefficients)
+
+-- the sum of the first k products p1·q1, ..
+abbrev pub productsIn : Layout → List ℕ → ℕ → ℕ → ℕ
+productsIn L coefficients x k = sumOf k (λ i. mul (L .width) (valueOf L (solutionOf L coefficients) i x) (valueOf L (basisOf L coefficients) i x))
+
 -- the form of a record at x
 abbrev pub recordForm : Layout → List ℕ → ℕ → ℕ
-recordForm L r = form L (basisOf L r) (solutionOf L r)
-
--- the sum of its first k products p1·q1, ..
-abbrev pub recordProducts : Layout → List ℕ → ℕ → ℕ → ℕ
-recordProducts L r x k = sumOf k (λ i. mul (L .width) (valueOf L (solutionOf L r) i x) (valueOf L (basisOf L r) i x))
+recordForm L r = formIn L (coefficientsOf r)
 
 -- the first input at which f and the table differ; the table's length if there is none
 unfoldable pub firstDifference : (ℕ → ℕ) → List ℕ → ℕ

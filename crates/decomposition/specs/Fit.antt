@@ -9,7 +9,7 @@ use Rattle.xor.specs.Sum.{Small}
 use Rattle.refusal.specs.Outcome.{Outcome, done, refused, test, andThen, written}
 use Rattle.refusal.specs.Large.{testBelow}
 use Rattle.decomposition.specs.Form.{Decomposition, NoDecomposition}
-use Rattle.decomposition.specs.Layout.{known, layout}
+use Rattle.decomposition.specs.Layout.{known, layout, recordSize}
 use Rattle.decomposition.specs.Record.{recordOf}
 use Rattle.decomposition.specs.Solution.{solvable, solution}
 use Rattle.decomposition.specs.declared.fitting.FitAnswer.{FitAnswer}
@@ -37,7 +37,7 @@ pub record FitEnd : Type 0 where
 
 -- the lengths of table, basis, work and out: each is that of the layout
 unfoldable pub fitLengths : Layout → ℕ → ℕ → ℕ → ℕ → Bool
-fitLengths L table basis work out = eqb table (L .inputs) && (eqb basis (L .basis) && (eqb work (L .work) && eqb out (L .size)))
+fitLengths L table basis work out = eqb table (L .inputs) && (eqb basis (L .basis) && (eqb work (L .work) && eqb out (recordSize L)))
 
 -- the lengths, work and out being those of the work and of the record, then the entries, counted through table and basis
 abbrev pub fitTests : Layout → List ℕ → List ℕ → ℕ → ℕ → Outcome
@@ -55,7 +55,7 @@ pub record FitReady (L : Layout) (c : FitCall) : Type 0 where
   pub inputs : length (c .table) ≡ L .inputs
   pub whole : length (c .basis) ≡ L .basis
   pub room : length (c .work) ≡ L .work
-  pub record-room : length (c .out) ≡ L .size
+  pub record-room : length (c .out) ≡ recordSize L
   pub entries : Small (L .width) (c .table)
   pub elements : Small (L .width) (c .basis)
 

@@ -16,17 +16,21 @@ use Rattle.decomposition.specs.declared.layouts.Layout.{Layout}
 
 -- ---- the form
 
+-- p1·q1 + .. + ph·qh + p(h+1) at width n, where q i and p i are the values of q(i+1) and p(i+1) at some x
+abbrev pub formOfValues : ℕ → ℕ → (ℕ → ℕ) → (ℕ → ℕ) → ℕ
+formOfValues n h q p = sumOf h (λ i. mul n (p i) (q i)) ⊕ p h
+
 -- the coefficients of polynomial number i, from 0, where the polynomials lie one after the other
-abbrev pub polynomial : Layout → List ℕ → ℕ → List ℕ
-polynomial L coefficients i = take (L .exponents) (drop (i * L .exponents) coefficients)
+abbrev pub polynomialIn : Layout → List ℕ → ℕ → List ℕ
+polynomialIn L coefficients i = take (L .exponents) (drop (i * L .exponents) coefficients)
 
 -- its value at x
 unfoldable pub valueOf : Layout → List ℕ → ℕ → ℕ → ℕ
-valueOf L coefficients i x = value (L .width) (polynomial L coefficients i) x
+valueOf L coefficients i x = value (L .width) (polynomialIn L coefficients i) x
 
 -- p1·q1 + .. + p(t-1)·q(t-1) + pt at x
 unfoldable pub form : Layout → List ℕ → List ℕ → ℕ → ℕ
-form L basis p x = sumOf (L .terms - 1) (λ i. mul (L .width) (valueOf L p i x) (valueOf L basis i x)) ⊕ valueOf L p (L .terms - 1) x
+form L basis p x = formOfValues (L .width) (L .terms - 1) (λ i. valueOf L basis i x) (λ i. valueOf L p i x)
 
 -- p meets the table: with it the form computes the table, at all inputs
 pub record Computes (L : Layout) (table basis p : List ℕ) : Type 0 where

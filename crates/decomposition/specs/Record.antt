@@ -8,7 +8,7 @@ use lib.ListN.{length, getD, take, drop}
 use Rattle.xor.specs.Sum.{Small}
 use Rattle.refusal.specs.Large.{testBelow}
 use Rattle.refusal.specs.Outcome.{Outcome, done, refused, test}
-use Rattle.decomposition.specs.Layout.{known, layout, Known}
+use Rattle.decomposition.specs.Layout.{known, head, layout, recordSize, Known}
 use Rattle.decomposition.specs.declared.layouts.Layout.{Layout}
 use Rattle.decomposition.specs.declared.reading.ReadAnswer.{ReadAnswer}
 use Rattle.decomposition.specs.declared.reading.ReadAnswer.the-variants.{Done, Refused}
@@ -23,13 +23,17 @@ headed n basis p = 68 ∷ 67 ∷ 80 ∷ 0 ∷ 1 ∷ n ∷ (basis ++ p)
 abbrev pub recordOf : Layout → List ℕ → List ℕ → List ℕ
 recordOf L basis p = headed (L .width) basis p
 
--- the parts of a record: the basis
+-- its coefficients: what follows the head
+abbrev pub coefficientsOf : List ℕ → List ℕ
+coefficientsOf r = drop head r
+
+-- the parts of the coefficients: the basis
 abbrev pub basisOf : Layout → List ℕ → List ℕ
-basisOf L r = take (L .basis) (drop 6 r)
+basisOf L coefficients = take (L .basis) coefficients
 
 -- and p1 to pt
 abbrev pub solutionOf : Layout → List ℕ → List ℕ
-solutionOf L r = drop (L .start) r
+solutionOf L coefficients = drop (L .basis) coefficients
 
 -- the width that it names
 abbrev pub widthOf : List ℕ → ℕ
@@ -43,12 +47,12 @@ marked r = eqb (getD r 0 0) 68 && (eqb (getD r 1 0) 67 && (eqb (getD r 2 0) 80 &
 
 -- the tests that follow once the width is known
 abbrev pub readAt : Layout → List ℕ → Outcome
-readAt L r = test (eqb (length r) (L .size)) 2 0 (testBelow (L .inputs) 6 (drop 6 r) (done (L .width ∷ [])))
+readAt L r = test (eqb (length r) (recordSize L)) 2 0 (testBelow (L .inputs) head (coefficientsOf r) (done (L .width ∷ [])))
 
 -- what Read answers
 unfoldable pub readOutcome : List ℕ → Outcome
 readOutcome r =
-    test (leb 6 (length r)) 2 0
+    test (leb head (length r)) 2 0
     (test (marked r) 5 0
     (test (known (widthOf r)) 1 0
     (readAt (layout (widthOf r)) r)))
@@ -63,5 +67,5 @@ pub record Accepted (n : ℕ) (r : List ℕ) : Type 0 where
   pub mark : marked r ≡ true
   pub width : Known n
   pub named : widthOf r ≡ n
-  pub whole : length r ≡ layout n .size
-  pub elements : Small n (drop 6 r)
+  pub whole : length r ≡ recordSize (layout n)
+  pub elements : Small n (coefficientsOf r)

@@ -2,8 +2,9 @@
 ghost use mathlib.Core.Path.{_≡_};
 ghost use lib.ListN.{length};
 ghost use Rattle.refusal.specs.Outcome.{refused};
-ghost use Rattle.decomposition.specs.Layout.{Sizes};
-ghost use Rattle.decomposition.specs.Check.{recordForm, firstDifference, checkAt, checkReport, checkOutcome};
+ghost use Rattle.decomposition.specs.Layout.{recordSize, Sizes};
+ghost use Rattle.decomposition.specs.Check.{formIn, firstDifference, checkAt, checkReport, checkOutcome};
+use crate::layouts::HEAD;
 use crate::layouts::Layout;
 use crate::layouts::layout_of;
 use crate::polynomial::form_at;
@@ -26,18 +27,18 @@ impl CheckAnswer {
     }
 }
 
-// The first input at which the form of the record and the table differ, or the table's length if there is none.
-fn first_difference(layout: Layout, bytes: &[u8], table: &[u8]) -> usize
+// The first input at which the form of a record's coefficients and the table differ, or the table's length if there is none.
+fn first_difference(layout: Layout, coefficients: &[u8], table: &[u8]) -> usize
     requires { ⌜ Sizes layout ⌝ }
-    requires { ⌜ (length (now bytes) ≡ layout .size) × (length (now table) ≡ layout .inputs) ⌝ }
-    ensures { λ r. ⌜ r ≡ firstDifference (recordForm layout (now (bytes .entry))) (now (table .entry)) ⌝ }
+    requires { ⌜ (length (now coefficients) ≡ layout .coefficients) × (length (now table) ≡ layout .inputs) ⌝ }
+    ensures { λ r. ⌜ r ≡ firstDifference (formIn layout (now (coefficients .entry))) (now (table .entry)) ⌝ }
 {
     let mut x = 0;
     let first = loop {
         if x == table.len() {
             break x;
         }
-        if form_at(layout, bytes, x as u8) != table[x] {
+        if form_at(layout, coefficients, x as u8) != table[x] {
             break x;
         }
         x += 1;
@@ -48,7 +49,7 @@ fn first_difference(layout: Layout, bytes: &[u8], table: &[u8]) -> usize
 // Check's tests of the table.
 fn check_at(layout: Layout, bytes: &[u8], table: &[u8]) -> CheckAnswer
     requires { ⌜ Sizes layout ⌝ }
-    requires { ⌜ length (now bytes) ≡ layout .size ⌝ }
+    requires { ⌜ length (now bytes) ≡ recordSize layout ⌝ }
     ensures { λ r. ⌜ checkReport r ≡ checkAt layout (now (bytes .entry)) (now (table .entry)) ⌝ }
 {
     if table.len() != layout.inputs {
@@ -58,7 +59,7 @@ fn check_at(layout: Layout, bytes: &[u8], table: &[u8]) -> CheckAnswer
     if large < table.len() {
         return CheckAnswer::refuse(3, large);
     }
-    let first = first_difference(layout, bytes, table);
+    let first = first_difference(layout, &bytes[HEAD..], table);
     if first < table.len() {
         return CheckAnswer::refuse(6, first);
     }

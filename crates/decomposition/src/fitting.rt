@@ -3,11 +3,12 @@ ghost use mathlib.Core.Path.{_≡_};
 ghost use Prim.Native.Nat.{_+_, _≤_};
 ghost use lib.ListN.{length, drop, replicate};
 ghost use Rattle.refusal.specs.Outcome.{refused};
-ghost use Rattle.decomposition.specs.Layout.{Sizes};
+ghost use Rattle.decomposition.specs.Layout.{head, Sizes};
 ghost use Rattle.decomposition.specs.Record.{headed};
 ghost use Rattle.decomposition.specs.Fit.{fitLengths, fitTests, FitReady, fitEnd, houseCall, Found, AfterTests, fitReport, houseFitReport};
 use crate::equations::equations;
 use crate::equations::powers;
+use crate::layouts::HEAD;
 use crate::layouts::Layout;
 use crate::layouts::known;
 use crate::layouts::layout_of;
@@ -48,8 +49,8 @@ const HOUSE_BASIS: [u8; 9] = [0, 1, 1, 0, 0, 0, 0, 1, 0];
 
 // Writes the mark, the version, the width and the basis.
 fn write_head(width: u32, basis: &[u8], out: &mut [u8])
-    requires { ⌜ (width ≤ 8) × (6 + length (now basis) ≤ length (now out)) ⌝ }
-    ensures { λ _. ⌜ now (out .exit) ≡ headed width (now (basis .entry)) (drop (6 + length (now (basis .entry))) (now (out .entry))) ⌝ }
+    requires { ⌜ (width ≤ 8) × (head + length (now basis) ≤ length (now out)) ⌝ }
+    ensures { λ _. ⌜ now (out .exit) ≡ headed width (now (basis .entry)) (drop (head + length (now (basis .entry))) (now (out .entry))) ⌝ }
 {
     out[0] = b'D';
     out[1] = b'C';
@@ -59,7 +60,7 @@ fn write_head(width: u32, basis: &[u8], out: &mut [u8])
     out[5] = width as u8;
     let mut i = 0;
     while i < basis.len() {
-        out[6 + i] = basis[i];
+        out[HEAD + i] = basis[i];
         i += 1;
     }
 }
@@ -74,7 +75,7 @@ fn find(layout: Layout, table: &[u8], basis: &[u8], work: &mut [u8], out: &mut [
         (now (out .exit)) (fitReport r) ⌝ }
 {
     let width = layout.width;
-    let start = layout.start;
+    let start = HEAD + layout.basis;
     powers(layout, work);
     equations(layout, table, basis, work);
     let solved = linear::solve(
@@ -94,6 +95,7 @@ fn find(layout: Layout, table: &[u8], basis: &[u8], work: &mut [u8], out: &mut [
 
 // Whether table, basis, work and out, of so many bytes, have the lengths of the layout.
 fn lengths_fit(layout: Layout, table: usize, basis: usize, work: usize, out: usize) -> bool
+    requires { ⌜ Sizes layout ⌝ }
     ensures { λ r. ⌜ r ≡ fitLengths layout table basis work out ⌝ }
 {
     if table != layout.inputs {
@@ -105,7 +107,7 @@ fn lengths_fit(layout: Layout, table: usize, basis: usize, work: usize, out: usi
     if work != layout.work {
         return false;
     }
-    out == layout.size
+    out == HEAD + layout.coefficients
 }
 
 // Fit's tests once the width is known: Done where all are passed. Work and out are the lengths of the work and the record.

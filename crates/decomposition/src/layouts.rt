@@ -3,7 +3,10 @@ ghost use mathlib.Core.Path.{_≡_};
 ghost use Rattle.decomposition.specs.Layout as spec;
 ghost use Rattle.decomposition.specs.Layout.{Known};
 
-// How the record of a decomposition and the work of Fit lie in bytes.
+// The bytes of a record's head.
+pub const HEAD: usize = 6;
+
+// How the coefficients of a record and the work of Fit lie in bytes.
 pub struct Layout {
     pub width: u32,
     // 2 ^ width
@@ -16,10 +19,8 @@ pub struct Layout {
     pub unknowns: usize,
     // the bytes of the basis
     pub basis: usize,
-    // where p1 begins in the record
-    pub start: usize,
-    // the bytes of the record
-    pub size: usize,
+    // the coefficients of a record: the basis, then p1 to pt
+    pub coefficients: usize,
     // where the powers of the inputs begin in the work
     pub powers: usize,
     // the bytes of the work
@@ -46,8 +47,7 @@ pub fn layout_of(width: u32) -> Layout
             terms: 2,
             unknowns: 18,
             basis: 9,
-            start: 15,
-            size: 33,
+            coefficients: 27,
             powers: 304,
             work: 448,
         }
@@ -59,8 +59,7 @@ pub fn layout_of(width: u32) -> Layout
             terms: 4,
             unknowns: 76,
             basis: 57,
-            start: 63,
-            size: 139,
+            coefficients: 133,
             powers: 4928,
             work: 6144,
         }

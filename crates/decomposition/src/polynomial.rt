@@ -1,4 +1,4 @@
-// Powers over the listed exponents, the values of polynomials, and the form of a record.
+// Powers over the listed exponents, the values of polynomials, and the form of a record's coefficients.
 ghost use mathlib.Core.Path.{_≡_};
 ghost use Prim.Native.Nat.{ℕ, _+_, _-_, _^_, _<_, _≤_};
 ghost use lib.ListN.{length};
@@ -10,7 +10,7 @@ ghost use Rattle.linear.specs.Row.{Agree, dot};
 ghost use Rattle.linear.specs.Buffer.{from, Overwritten};
 ghost use Rattle.decomposition.specs.Layout.{Sizes};
 ghost use Rattle.decomposition.specs.Form.{monomial};
-ghost use Rattle.decomposition.specs.Check.{recordForm, recordProducts};
+ghost use Rattle.decomposition.specs.Check.{formIn, productsIn};
 use crate::layouts::Layout;
 
 // x to the power `next`, where `power` is x to the power e: its square, if `next` follows e.
@@ -68,40 +68,40 @@ pub fn evaluate(
     sum
 }
 
-// p1·q1 + .. + p(t-1)·q(t-1) of a record at an input, whose powers are given.
-fn products(layout: Layout, bytes: &[u8], powers: &[u8]) -> u8
+// p1·q1 + .. + p(t-1)·q(t-1) of a record's coefficients at an input, whose powers are given.
+fn products(layout: Layout, coefficients: &[u8], powers: &[u8]) -> u8
     requires { ⌜ Sizes layout ⌝ }
-    requires { ⌜ (length (now bytes) ≡ layout .size) × (layout .exponents ≤ length (now powers)) ⌝ }
+    requires { ⌜ (length (now coefficients) ≡ layout .coefficients) × (layout .exponents ≤ length (now powers)) ⌝ }
     ensures { λ r. ⌜ ((x : ℕ) → Agree (layout .exponents) (from (now (powers .entry)) 0) (monomial (layout .width) x)
-        → r ≡ recordProducts layout (now (bytes .entry)) x (layout .terms - 1)) ⌝ }
+        → r ≡ productsIn layout (now (coefficients .entry)) x (layout .terms - 1)) ⌝ }
 {
     let width = layout.width;
     let count = layout.exponents;
     let last = layout.terms - 1;
-    let start = layout.start;
+    let start = layout.basis;
     let mut sum = 0u8;
     let mut i = 0;
     while i < last {
-        let p = evaluate(width, count, bytes, start + i * count, powers, 0);
-        let q = evaluate(width, count, bytes, 6 + i * count, powers, 0);
+        let p = evaluate(width, count, coefficients, start + i * count, powers, 0);
+        let q = evaluate(width, count, coefficients, i * count, powers, 0);
         sum = sum ^ field::mul(width, p, q);
         i += 1;
     }
     sum
 }
 
-// The form of a record at an input.
-pub fn form_at(layout: Layout, bytes: &[u8], x: u8) -> u8
+// The form of a record's coefficients at an input.
+pub fn form_at(layout: Layout, coefficients: &[u8], x: u8) -> u8
     requires { ⌜ Sizes layout ⌝ }
-    requires { ⌜ (length (now bytes) ≡ layout .size) × (x < layout .inputs) ⌝ }
-    ensures { λ r. ⌜ r ≡ recordForm layout (now (bytes .entry)) x ⌝ }
+    requires { ⌜ (length (now coefficients) ≡ layout .coefficients) × (x < layout .inputs) ⌝ }
+    ensures { λ r. ⌜ r ≡ formIn layout (now (coefficients .entry)) x ⌝ }
 {
     let width = layout.width;
     let count = layout.exponents;
     let last = layout.terms - 1;
-    let start = layout.start;
+    let start = layout.basis;
     let mut powers = [0u8; 32];
     power_row(width, count, &mut powers, 0, x);
-    let sum = products(layout, bytes, &powers);
-    sum ^ evaluate(width, count, bytes, start + last * count, &powers, 0)
+    let sum = products(layout, coefficients, &powers);
+    sum ^ evaluate(width, count, coefficients, start + last * count, &powers, 0)
 }

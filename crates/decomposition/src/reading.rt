@@ -3,9 +3,10 @@ ghost use mathlib.Core.Path.{_≡_};
 ghost use Prim.Native.Nat.{_≤_};
 ghost use lib.ListN.{length};
 ghost use Rattle.refusal.specs.Outcome.{refused};
-ghost use Rattle.decomposition.specs.Layout.{Sizes};
+ghost use Rattle.decomposition.specs.Layout.{head, Sizes};
 ghost use Rattle.decomposition.specs.Record as spec;
 ghost use Rattle.decomposition.specs.Record.{readAt, readReport, readOutcome};
+use crate::layouts::HEAD;
 use crate::layouts::Layout;
 use crate::layouts::known;
 use crate::layouts::layout_of;
@@ -28,7 +29,7 @@ impl ReadAnswer {
 
 // Whether the record begins with the letters `DCP` and the version.
 fn marked(bytes: &[u8]) -> bool
-    requires { ⌜ 6 ≤ length (now bytes) ⌝ }
+    requires { ⌜ head ≤ length (now bytes) ⌝ }
     ensures { λ r. ⌜ r ≡ spec.marked (now (bytes .entry)) ⌝ }
 {
     if bytes[0] != b'D' {
@@ -49,15 +50,15 @@ fn marked(bytes: &[u8]) -> bool
 // Read's tests once the width is known.
 fn read_at(layout: Layout, bytes: &[u8]) -> ReadAnswer
     requires { ⌜ Sizes layout ⌝ }
-    requires { ⌜ 6 ≤ length (now bytes) ⌝ }
+    requires { ⌜ head ≤ length (now bytes) ⌝ }
     ensures { λ r. ⌜ readReport r ≡ readAt layout (now (bytes .entry)) ⌝ }
 {
-    if bytes.len() != layout.size {
+    if bytes.len() != HEAD + layout.coefficients {
         return ReadAnswer::refuse(2, 0);
     }
-    let at = first_large(layout.inputs as u8, &bytes[6..]);
-    if at < bytes.len() - 6 {
-        return ReadAnswer::refuse(3, 6 + at);
+    let at = first_large(layout.inputs as u8, &bytes[HEAD..]);
+    if at < bytes.len() - HEAD {
+        return ReadAnswer::refuse(3, HEAD + at);
     }
     ReadAnswer::Done {
         width: layout.width,
@@ -68,7 +69,7 @@ fn read_at(layout: Layout, bytes: &[u8]) -> ReadAnswer
 pub fn read(bytes: &[u8]) -> ReadAnswer
     ensures { λ r. ⌜ readReport r ≡ readOutcome (now (bytes .entry)) ⌝ }
 {
-    if bytes.len() < 6 {
+    if bytes.len() < HEAD {
         return ReadAnswer::refuse(2, 0);
     }
     if !marked(bytes) {

@@ -19,10 +19,9 @@ use Rattle.steps.specs.Tape.{nibbles, elements, bytesFor}
 use Rattle.steps.specs.Operations.{column, maskedByte, splitShares}
 use Rattle.product.specs.Product.{start, pair, row, product}
 use Rattle.product.specs.ByShare.{byShare, constant, square, squares}
-use Rattle.sbox.specs.Form.{basisSize}
-use Rattle.sbox.specs.Polynomials.{polynomialsOf, basisIn, solutionIn}
+use Rattle.sbox.specs.Form.{basisSize, basisIn, solutionIn}
 use Rattle.sbox.specs.Sbox as sbox
-use Rattle.sbox.specs.Figures.{sboxSteps}
+use Rattle.sbox.specs.Figures.{productsFor, ownSteps, stepsFor, sboxSteps}
 use Rattle.sbox.specs.Operations.{callProgram, sboxCall}
 use Rattle.steps.specs.Iterate.{turns, iterate}
 use Rattle.present.specs.Present.{nibble, replace, onNibble, substitute, place, rotate, onTopNibbles, roundNumber, updateKey}
@@ -32,9 +31,9 @@ use Rattle.paper.specs.Cases.{Case, computed, zeroFit, splitValue, check
 rows : map (λ (c : Case). c .given) computed ≡ map (λ (c : Case). c .said) computed
 unfolding computed houseBasis products classes flatten exponents combination value join
     _>>=_ _>>_ note random loop for first later result trace watched draws program.products start pair row product tabulate nibbles elements bytesFor
-    layout sized termsOf headed basisSize polynomialsOf basisIn solutionIn
-    byShare square squares sbox.factors sbox.classesAfter sbox.powers constant sbox.term sbox.polynomial sbox.polynomials sbox.products sbox.total sbox.sbox
-    sboxSteps callProgram sboxCall callCounts
+    layout sized termsOf headed basisSize basisIn solutionIn
+    byShare square squares sbox.factors sbox.classesAfter sbox.powers constant sbox.term sbox.polynomial sbox.polynomials sbox.formProducts sbox.total sbox.sbox
+    productsFor ownSteps stepsFor sboxSteps callProgram sboxCall callCounts
     turns iterate nibble replace onNibble present.table substitute place rotate onTopNibbles roundNumber updateKey
 rows = refl
 

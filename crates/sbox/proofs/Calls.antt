@@ -2,13 +2,12 @@
 use mathlib.Core.Path.{_≡_, refl, sym, ap, _∙_, subst}
 use mathlib.Core.Bool.{Bool, true, cond, and-eq-true-iff}
 use mathlib.Core.List.{List, [], _∷_, _++_}
-use Prim.Native.Nat.{ℕ, _+_, _-_, _*_, _^_, _≤_, _<_}
-use native.Mathlib.Nat.{mul-le-mul}
+use Prim.Native.Nat.{ℕ, _+_, _^_, _≤_, _<_}
 use native.Mathlib.Decide.{decLt}
 use native.Mathlib.Omega.{arith}
 use borrow.Author.Tests.{eqb-true, eq-eqb, leb-true}
 use lib.Dec.{leb, eqb}
-use lib.ListN.{length, List·getD-eq-default}
+use lib.ListN.{length, length-drop, List·getD-eq-default}
 use lib.Pow.{pow-pos}
 use Rattle.xor.specs.Sum.{join, Small}
 use Rattle.refusal.specs.Outcome.{Outcome, done, andThen}
@@ -18,7 +17,6 @@ use Rattle.refusal.specs.Large.{firstLarge}
 use Rattle.refusal.proofs.Outcome.{passed, then-passed}
 use Rattle.refusal.proofs.Range.{one-to-range}
 use Rattle.refusal.proofs.Large.{all-small, both-small}
-use Rattle.field.specs.Polynomial.{exponents}
 use Rattle.steps.specs.Sharing.{share, Sharing, Filled}
 use Rattle.steps.specs.Fill.{tabulate}
 use Rattle.steps.specs.Tape.{elements, bytesFor}
@@ -28,36 +26,32 @@ use Rattle.steps.specs.Call.{callCounts, Takes}
 use Rattle.steps.specs.Call as call-spec
 use Rattle.steps.proofs.Call as call
 use Rattle.steps.proofs.Tape.{elements-nibbles}
-use Rattle.decomposition.specs.Layout.{termsOf, sized, layout, Known}
-use Rattle.decomposition.specs.Record.{widthOf, readOutcome, Accepted}
+use Rattle.decomposition.specs.Layout.{head, layout, Known}
+use Rattle.decomposition.specs.Record.{coefficientsOf, widthOf, readOutcome, Accepted}
 use Rattle.decomposition.proofs.ReadOutcome.{read-values}
 use Rattle.decomposition.proofs.Sizes.{known-both}
-use Rattle.sbox.specs.Form.{basisSize}
+use Rattle.sbox.specs.Form.{basisIn, solutionIn}
 use Rattle.sbox.specs.Figures.{sboxProducts, sboxDraws, sboxSteps}
-use Rattle.sbox.specs.Polynomials.{basisIn, solutionIn}
 use Rattle.sbox.specs.Sbox.{sbox}
 use Rattle.sbox.specs.Operations.{callProgram, sboxCall, sboxLengths, testedRandom, argumentTests, callTests, sboxOutput, watchOutput, SameShares, Callable, watchOutcome}
 use Rattle.sbox.proofs.Places.{sbox-same}
 use Rattle.sbox.proofs.Record.{accepted-record}
+use Rattle.sbox.proofs.Counts.{figures-4, figures-6}
 use Rattle.sbox.proofs.Runs.{takes}
 use Rattle.product.proofs.Counts.{few-pairs}
 
 -- ---- numbers stay small
 
 pub few-taken : (n s : ℕ) → Known n → s ≤ 9 → (sboxProducts n < 6) × (sboxDraws n s < 200) × (sboxSteps n s < 4000)
-unfolding sboxProducts sboxDraws sboxSteps
 few-taken n s w h =
     known-both (λ n. (sboxProducts n < 6) × (sboxDraws n s < 200) × (sboxSteps n s < 4000))
-    (omega (arith, few-pairs h)) (omega (arith, few-pairs h)) n w
+    (omega (arith, few-pairs h, figures-4 s)) (omega (arith, few-pairs h, figures-6 s)) n w
 
 -- ---- a call that passes the tests
 
--- the record is as long as the code asks
-pub record-room : {n : ℕ} {r : List ℕ} → Accepted n r → 6 + (basisSize n + (basisSize n + 1)) * length (exponents n) ≤ length r
-unfolding basisSize layout sized termsOf
-record-room {n} {r} a =
-    known-both (λ n. length r ≡ layout n .size → 6 + (basisSize n + (basisSize n + 1)) * length (exponents n) ≤ length r)
-    (λ e. omega arith) (λ e. omega arith) n (a .width) (a .whole)
+-- the record has as many coefficients as the code asks
+pub record-room : {n : ℕ} {r : List ℕ} → Accepted n r → layout n .coefficients ≤ length (coefficientsOf r)
+record-room {n} {r} a = omega (arith, length-drop head r, a .whole)
 
 -- the lengths that a call takes, and that these are all
 pub call-lengths : (n s shares random : ℕ) (fits : Bool) → sboxLengths n s shares random fits ≡ true
@@ -143,9 +137,9 @@ module _ {n s : ℕ} {r shares random : List ℕ} (a : Callable n r s shares ran
 
 -- x has the same shares as those lent
 pub call-program : {n s : ℕ} {r shares random : List ℕ} (x : List ℕ) → Callable n r s shares random → SameShares x shares
-    → sbox n s (basisIn n r) (solutionIn n r) x ≡ callProgram r s shares
+    → sbox n s (basisIn n (coefficientsOf r)) (solutionIn n (coefficientsOf r)) x ≡ callProgram r s shares
 unfolding callProgram
-call-program {n} {s} {r} {shares} x a same = rw (a .accepted .named) (sbox-same n s x shares same (basisIn n r) (solutionIn n r))
+call-program {n} {s} {r} {shares} x a same = rw (a .accepted .named) (sbox-same n s x shares same (basisIn n (coefficientsOf r)) (solutionIn n (coefficientsOf r)))
 
 -- what a call's run hands back and writes
 module _ {n s : ℕ} {r shares random : List ℕ} (a : Callable n r s shares random) where
@@ -165,8 +159,8 @@ module _ {n s : ℕ} {r shares random : List ℕ} (a : Callable n r s shares ran
 
   -- what a watch leaves, where each number of the list is that of a step
   some-steps : 0 < sboxSteps n s
-  unfolding sboxSteps
-  some-steps = known-both (λ n. 0 < sboxSteps n s) (omega (arith, a .some)) (omega (arith, a .some)) n (a .accepted .width)
+  some-steps =
+      known-both (λ n. 0 < sboxSteps n s) (omega (arith, a .some, figures-4 s)) (omega (arith, a .some, figures-6 s)) n (a .accepted .width)
 
   pub call-watched : {list vs x vs′ : List ℕ} {c : Counts} → length list ≡ length vs → length list ≤ firstLarge (sboxSteps n s) list
       → Went (elements n random) list (callProgram r s shares) zeroCounts vs x c vs′ → vs′ ≡ watchOutput r s shares random list

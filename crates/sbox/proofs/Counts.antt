@@ -1,11 +1,9 @@
 -- How many steps, draws and masked products the masked S-box has.
 use mathlib.Core.Path.{_≡_, refl, sym, ap, ap₂, _∙_}
-use mathlib.Core.Bool.{cond}
 use mathlib.Core.List.{[], _∷_, _++_}
 use Prim.Native.Nat.{ℕ, suc, _+_, _-_, _*_, _/_}
-use native.Mathlib.Nat.{one-mul, sub-zero, mul-assoc, mul-left-comm}
+use native.Mathlib.Nat.{one-mul, mul-one, sub-zero, mul-assoc, mul-left-comm}
 use native.Mathlib.Omega.{arith}
-use lib.Dec.{eqb}
 use lib.ListN.{length, replicate}
 use Rattle.field.specs.Polynomial.{exponents}
 use Rattle.field.proofs.Polynomial.{length-exponents-4, length-exponents-6}
@@ -22,11 +20,7 @@ use Rattle.sbox.specs.Form.{basisSize}
 use Rattle.sbox.specs.Shape.{classShape, powersShape, termShape, polynomialShape, totalShape, sboxShape}
 use Rattle.product.specs.ByShare.{times, squareShape}
 use Rattle.sbox.specs.Sbox.{factors}
-use Rattle.sbox.specs.Figures.{sboxProducts, sboxDraws, sboxSteps}
-
--- the steps of each share outside the masked products
-ownSteps : ℕ → ℕ
-ownSteps n = cond (eqb n 4) 55 (cond (eqb n 6) 270 0)
+use Rattle.sbox.specs.Figures.{productsFor, ownSteps, drawsFor, stepsFor, sboxProducts, sboxDraws, sboxSteps}
 
 -- q for a step of one share and m for a masked product
 module _ {f : Shape → ℕ} (c : Counting f) (n s q m : ℕ) (hq : (i : ℕ) → f (stepOf (one i) ∷ []) ≡ q) (hm : f (productShape n s) ≡ m) where
@@ -80,34 +74,45 @@ module _ {f : Shape → ℕ} (c : Counting f) (n s q m : ℕ) (hq : (i : ℕ) �
       ∙ ap₂ (λ (x y : ℕ). x + y) (counts-times c (suc k) count)
       (c .both (times k (productShape n s)) (totalShape s k) ∙ ap₂ (λ (x y : ℕ). x + y) (counts-times c k hm) (counts-total k))))
 
--- its count at each width
-counts-sbox : {f : Shape → ℕ} → Counting f → (n s q m : ℕ) → ((i : ℕ) → f (stepOf (one i) ∷ []) ≡ q) → f (productShape n s) ≡ m → Known n
-    → f (sboxShape n s (basisSize n)) ≡ ownSteps n * (s * q) + sboxProducts n * m
-unfolding basisSize termsOf ownSteps sboxProducts factors
-counts-sbox {f} c n s q m hq hm w =
-    known-both (λ n. f (productShape n s) ≡ m → f (sboxShape n s (basisSize n)) ≡ ownSteps n * (s * q) + sboxProducts n * m)
-    (λ h. counts-parts c 4 s q m hq h 1 8 (omega (arith, length-exponents-4)) ∙ omega arith)
-    (λ h. counts-parts c 6 s q m hq h 3 18 (omega (arith, length-exponents-6)) ∙ omega arith) n w hm
+-- its count, by the steps outside the masked products and the masked products
+counts-sbox : {f : Shape → ℕ} → Counting f → (n s h q m : ℕ) → ((i : ℕ) → f (stepOf (one i) ∷ []) ≡ q) → f (productShape n s) ≡ m
+    → f (sboxShape n s h) ≡ ownSteps n h * (s * q) + productsFor n h * m
+unfolding ownSteps productsFor
+counts-sbox c n s h q m hq hm =
+    let e = length (exponents n) - 1 in
+    let g = length (factors n) in
+    let w = n - 1 in
+    counts-parts c n s q m hq hm h e refl ∙ gathered w g e h (s * q) m
+  where
+    gathered : (w g e h p m : ℕ) → w * p + g * (m + w * p) + (h * (e * 2 * p) + (suc h * (e * 2 * p) + (h * m + h * p)))
+        ≡ (w * (1 + g) + e * 2 * (h + (h + 1)) + h) * p + (g + h) * m
+    gathered w g e h p m = omega arith
 
 -- ---- the figures
 
-pub sbox-steps : (n s : ℕ) → Known n → stepsOf (sboxShape n s (basisSize n)) ≡ sboxSteps n s
-unfolding touchesOf ownSteps sboxProducts sboxSteps
-sbox-steps n s w =
-    counts-sbox counts-steps n s 1 (s + 7 * (s * (s - 1) / 2)) (λ i. refl) (product-steps n s) w
-    ∙ known-both (λ n. ownSteps n * (s * 1) + sboxProducts n * (s + 7 * (s * (s - 1) / 2)) ≡ sboxSteps n s)
-    (omega (arith, pairs-twice s)) (omega (arith, pairs-twice s)) n w
+pub sbox-steps : (n s : ℕ) → stepsOf (sboxShape n s (basisSize n)) ≡ sboxSteps n s
+unfolding touchesOf sboxSteps stepsFor
+sbox-steps n s =
+    counts-sbox counts-steps n s (basisSize n) 1 (s + 7 * (s * (s - 1) / 2)) (λ i. refl) (product-steps n s)
+    ∙ ap (λ (k : ℕ). ownSteps n (basisSize n) * k + productsFor n (basisSize n) * (s + 7 * (s * (s - 1) / 2))) (mul-one s)
 
-pub sbox-draws : (n s : ℕ) → Known n → drawsOf (sboxShape n s (basisSize n)) ≡ sboxDraws n s
-unfolding bitsOf ownSteps sboxProducts sboxDraws
-sbox-draws n s w =
-    counts-sbox counts-draws n s 0 (s * (s - 1) / 2) (λ i. refl) (product-draws n s) w
-    ∙ known-both (λ n. ownSteps n * (s * 0) + sboxProducts n * (s * (s - 1) / 2) ≡ sboxDraws n s)
-    (omega (arith, pairs-twice s)) (omega (arith, pairs-twice s)) n w
+pub sbox-draws : (n s : ℕ) → drawsOf (sboxShape n s (basisSize n)) ≡ sboxDraws n s
+unfolding bitsOf sboxDraws drawsFor
+sbox-draws n s = counts-sbox counts-draws n s (basisSize n) 0 (s * (s - 1) / 2) (λ i. refl) (product-draws n s) ∙ omega arith
 
-pub sbox-products : (n s : ℕ) → Known n → productsOf (sboxShape n s (basisSize n)) ≡ sboxProducts n
-unfolding productsOf
-sbox-products n s w = counts-sbox counts-products n s 0 1 (λ i. refl) (product-products n s) w ∙ omega arith
+pub sbox-products : (n s : ℕ) → productsOf (sboxShape n s (basisSize n)) ≡ sboxProducts n
+unfolding productsOf sboxProducts
+sbox-products n s = counts-sbox counts-products n s (basisSize n) 0 1 (λ i. refl) (product-products n s) ∙ omega arith
+
+-- THE PAPER'S FIGURES at width 4,
+pub figures-4 : (s : ℕ) → (sboxProducts 4 ≡ 2) × (sboxDraws 4 s ≡ s * (s - 1)) × (sboxSteps 4 s ≡ 57 * s + 7 * (s * (s - 1)))
+unfolding sboxProducts sboxDraws sboxSteps productsFor drawsFor stepsFor ownSteps basisSize termsOf factors
+figures-4 s = rw length-exponents-4 (refl, omega (arith, pairs-twice s), omega (arith, pairs-twice s))
+
+-- and at width 6.
+pub figures-6 : (s : ℕ) → (sboxProducts 6 ≡ 5) × (sboxDraws 6 s ≡ 5 * (s * (s - 1)) / 2) × (sboxSteps 6 s ≡ 275 * s + 35 * (s * (s - 1)) / 2)
+unfolding sboxProducts sboxDraws sboxSteps productsFor drawsFor stepsFor ownSteps basisSize termsOf factors
+figures-6 s = rw length-exponents-6 (refl, omega (arith, pairs-twice s), omega (arith, pairs-twice s))
 
 -- ---- all draws are of n bits
 
@@ -144,22 +149,22 @@ module _ (n s : ℕ) where
       (uniform-append n (times (suc k) polynomial) last (uniform-times n (suc k) polynomial uniform-polynomial)
       (uniform-append n (times k (productShape n s)) (totalShape s k) (uniform-times n k (productShape n s) (uniform-product n s)) (uniform-total k))))
 
-pub sbox-bits : (n s : ℕ) → Known n → bitsOf (sboxShape n s (basisSize n)) ≡ replicate (sboxDraws n s) n
-sbox-bits n s w = uniform-sbox n s (basisSize n) ∙ ap (λ (k : ℕ). replicate k n) (sbox-draws n s w)
+pub sbox-bits : (n s : ℕ) → bitsOf (sboxShape n s (basisSize n)) ≡ replicate (sboxDraws n s) n
+sbox-bits n s = uniform-sbox n s (basisSize n) ∙ ap (λ (k : ℕ). replicate k n) (sbox-draws n s)
 
 -- ---- in bytes
 
 -- THE RANDOM BYTES of a call: at width 4 two elements fill each,
 pub sbox-bytes-4 : (s : ℕ) → bytesFor 4 (sboxDraws 4 s) ≡ s * (s - 1) / 2
-unfolding bytesFor sboxDraws
-sbox-bytes-4 s = omega (arith, pairs-twice s)
+unfolding bytesFor
+sbox-bytes-4 s = omega (arith, pairs-twice s, figures-4 s .1)
 
 -- at width 6 each holds one.
 pub sbox-bytes-6 : (s : ℕ) → bytesFor 6 (sboxDraws 6 s) ≡ 5 * (s * (s - 1)) / 2
-unfolding bytesFor sboxDraws
-sbox-bytes-6 s = refl
+unfolding bytesFor
+sbox-bytes-6 s = figures-6 s .1
 
 -- no byte has room for more
 pub sbox-full : (n s : ℕ) → Known n → Full n (sboxDraws n s)
-unfolding bytesFor sboxDraws
-sbox-full n s = known-both (λ n. Full n (sboxDraws n s)) (omega (arith, pairs-twice s)) refl n
+unfolding bytesFor
+sbox-full n s = known-both (λ n. Full n (sboxDraws n s)) (omega (arith, pairs-twice s, figures-4 s .1)) refl n

@@ -12,7 +12,7 @@ use Rattle.steps.proofs.Coupling.{coupled-bind, coupled-for}
 use Rattle.steps.proofs.Sharing.{close-at, close-nth, close-append, coupled-note}
 use Rattle.product.proofs.Coupling.{coupled-product}
 use Rattle.product.proofs.ByShare.{close-same, close-add, close-mul, coupled-squares, coupled-by-share, constant-small}
-use Rattle.sbox.specs.Sbox.{factors, classesAfter, powers, term, polynomial, polynomials, products, total, sbox}
+use Rattle.sbox.specs.Sbox.{factors, classesAfter, powers, term, polynomial, polynomials, formProducts, total, sbox}
 use Rattle.product.specs.ByShare.{nth, constant}
 use Rattle.sbox.specs.Form.{SmallAll, Coefficients}
 
@@ -52,8 +52,8 @@ module _ {n : ℕ} (ring : Ring n) (s u : ℕ) where
       coupled-return (close-cons ha hl)
 
   coupled-products : {ps ps′ qs qs′ : List (List ℕ)} → CloseAll n u ps ps′ → CloseAll n u qs qs′ → (j k : ℕ)
-      → Coupled u (CloseAll n u) (products n s ps qs j k) (products n s ps′ qs′ j k)
-  unfolding products
+      → Coupled u (CloseAll n u) (formProducts n s ps qs j k) (formProducts n s ps′ qs′ j k)
+  unfolding formProducts
   coupled-products hp hq j zero = coupled-return close-nil
   coupled-products hp hq j (suc k) =
       coupled-bind (coupled-product ring u (close-nth hp j) (close-nth hq j) s) λ a a′ ha.

@@ -8,7 +8,7 @@ use Rattle.xor.specs.Xor.{_⊕_}
 use Rattle.xor.specs.Sum.{join}
 use Rattle.field.specs.Mul.{mul}
 use Rattle.field.proofs.Inverses.{field-of}
-use Rattle.decomposition.specs.Layout.{Known}
+use Rattle.decomposition.specs.Layout.{termsOf}
 use Rattle.decomposition.proofs.Sizes.{known-width}
 use Rattle.steps.specs.Program.{_>>=_, _>>_, note, random, loop, for, first, later, trace}
 use Rattle.steps.specs.Watch.{watched}
@@ -27,7 +27,7 @@ use Rattle.sbox.specs.Sbox.{factors, classesAfter, powers, sbox}
 use Rattle.product.specs.ByShare.{byShare, square, squares}
 use Rattle.sbox.specs.Form.{formOf, basisSize, AcceptedForm}
 use Rattle.sbox.specs.Shape.{sboxShape}
-use Rattle.sbox.specs.Figures.{sboxDraws}
+use Rattle.sbox.specs.Figures.{productsFor, drawsFor, sboxDraws}
 use Rattle.sbox.specs.Experiment.{experiment, experimentShape, sboxInputs}
 use Rattle.sbox.proofs.Shape.{shaped-sbox}
 use Rattle.sbox.proofs.Counts.{sbox-bits}
@@ -35,11 +35,11 @@ use Rattle.sbox.proofs.Coupling.{coupled-sbox}
 
 -- ---- the shape
 
-pub experiment-bits : (n s : ℕ) → Known n → bitsOf (experimentShape n s) ≡ choiceBits (sboxInputs n s)
+pub experiment-bits : (n s : ℕ) → bitsOf (experimentShape n s) ≡ choiceBits (sboxInputs n s)
 unfolding experimentShape choiceBits maskBits
-experiment-bits n s w =
+experiment-bits n s =
     bits-append (replicate (s - 1) (drawOf n)) (sboxShape n s (basisSize n))
-    ∙ ap₂ (λ (l m : List ℕ). l ++ m) (draws-bits n (s - 1)) (sbox-bits n s w)
+    ∙ ap₂ (λ (l m : List ℕ). l ++ m) (draws-bits n (s - 1)) (sbox-bits n s)
 
 pub experiment-touches : (n s : ℕ) → touchesOf (experimentShape n s) ≡ touchesOf (sboxShape n s (basisSize n))
 unfolding experimentShape
@@ -100,7 +100,7 @@ experiment-step-nine qs ps x tape = step-nine qs ps (x ⊕ join (first tape ∷ 
 -- the choices at which it shows 0, mask by mask: 256 for each mask at which it is 0
 pub step-nine-choices : (qs ps : List (List ℕ)) (x : ℕ)
     → choices (choiceBits (sboxInputs 4 2)) (experiment 4 2 qs ps x) (9 ∷ []) (0 ∷ []) ≡ sum 16 (λ m. cond (equal (stepNine x m ∷ []) (0 ∷ [])) 256 0)
-unfolding choices choiceBits maskBits sboxDraws tally totalBits first
+unfolding choices choiceBits maskBits sboxDraws drawsFor productsFor basisSize termsOf factors tally totalBits first
 step-nine-choices qs ps x =
     tally-same (4 ∷ 4 ∷ 4 ∷ []) _ (λ tape. equal (stepNine x (first tape) ∷ []) (0 ∷ []))
     (λ tape f. ap (λ (l : List ℕ). equal l (0 ∷ [])) (experiment-step-nine qs ps x tape))

@@ -10,7 +10,7 @@ use lib.Seq.{getD-set-same, getD-set-other, getD-at, getD-take, getD-drop}
 use Rattle.steps.specs.Sharing.{share}
 use Rattle.steps.proofs.Sharing.{share-zeros}
 use Rattle.product.specs.ByShare.{nth}
-use Rattle.sbox.specs.Table.{cell, setCell, row, put}
+use Rattle.sbox.specs.Table.{tableCell, setCell, tableRow, put}
 
 -- ---- lists of sharings
 
@@ -36,14 +36,14 @@ nth-open (a ∷ l) (suc r) = nth-open l r
 -- row r holds the s shares of sharing r of the list; the rows past the list are 0
 pub record Holds (s : ℕ) (t : List ℕ) (l : List (List ℕ)) : Type 0 where
   pub size : length t ≡ 252
-  pub cells : (r i : ℕ) → i < s → cell t r i ≡ share (nth l r) i
+  pub cells : (r i : ℕ) → i < s → tableCell t r i ≡ share (nth l r) i
 
 pub holds-none : {s : ℕ} → Holds s (replicate 252 0) []
-unfolding cell
+unfolding tableCell
 holds-none = record { size = length-replicate {A = ℕ} 252 0; cells = λ r i h. share-zeros 252 (9 * r + i) }
 
-pub holds-row : {s : ℕ} {t : List ℕ} {l : List (List ℕ)} → Holds s t l → (r i : ℕ) → i < s → share (row t r) i ≡ share (nth l r) i
-unfolding cell
+pub holds-row : {s : ℕ} {t : List ℕ} {l : List (List ℕ)} → Holds s t l → (r i : ℕ) → i < s → share (tableRow t r) i ≡ share (nth l r) i
+unfolding tableCell
 holds-row {t = t} h r i k = getD-drop (9 * r) t i 0 ∙ h .cells r i k
 
 -- a list whose sharings have the same shares
@@ -70,7 +70,7 @@ holds-last {s} l b c e = holds-same same
 pub holds-set : {s : ℕ} {t : List ℕ} (l : List (List ℕ)) (b c : List ℕ) {i v : ℕ} → s ≤ 9 → length l < 28 → i < 9
     → share c i ≡ v → ((j : ℕ) → j ≢ i → share c j ≡ share b j)
     → Holds s t (l ++ (b ∷ [])) → Holds s (setCell t (length l) i v) (l ++ (c ∷ []))
-unfolding cell setCell
+unfolding tableCell setCell
 holds-set {s} {t} l b c {i} {v} nine hl hi e f h =
     record { size = length-set t (9 * length l + i) v ∙ h .size; cells = λ r j k. go r j k (ℕ-discrete r (length l)) (ℕ-discrete j i) }
   where

@@ -16,9 +16,9 @@ use Rattle.steps.proofs.Lockstep.{Lockstep, lockstep-return, lockstep-step, loc
 use Rattle.steps.proofs.Lockstep.{lockstep-weaken, lockstep-for, lockstep-same}
 use Rattle.steps.proofs.Sharing.{share-zeros}
 use Rattle.product.specs.Product.{product}
-use Rattle.sbox.specs.Sbox.{factors, classesAfter, powers, term, polynomial, polynomials, products, total, sbox}
+use Rattle.sbox.specs.Sbox.{factors, classesAfter, powers, term, polynomial, polynomials, formProducts, total, sbox}
 use Rattle.product.specs.ByShare.{byShare, nth, square, squares, constant}
-use Rattle.sbox.specs.Table.{cell, setCell, put}
+use Rattle.sbox.specs.Table.{tableCell, setCell, put}
 use Rattle.sbox.specs.Table as table
 use Rattle.sbox.specs.TableSteps.{squareShare, squareRow, multiplyRows, factorsOf, powerClass, powerRows}
 use Rattle.sbox.specs.TableSteps.{termAt, polynomialShare, polynomialRow}
@@ -27,8 +27,8 @@ use Rattle.sbox.proofs.Places.{product-same}
 use Rattle.sbox.proofs.Holds.{Holds, holds-none, holds-row, holds-open, holds-last, holds-set, holds-put}
 
 -- cs are the coefficients of polynomial j of a record whose polynomials have k + 1 each
-pub record Reads (k : ℕ) (rec : List ℕ) (j : ℕ) (cs : List ℕ) : Type 0 where
-  pub coefficient : (r : ℕ) → r ≤ k → getD cs r 0 ≡ getD rec (6 + j * (k + 1) + r) 0
+pub record Reads (k : ℕ) (coefficients : List ℕ) (j : ℕ) (cs : List ℕ) : Type 0 where
+  pub coefficient : (r : ℕ) → r ≤ k → getD cs r 0 ≡ getD coefficients (j * (k + 1) + r) 0
 
 -- a loop of k turns
 for-times : (i s k : ℕ) (f : ℕ → List ℕ → Run (List ℕ)) (t : List ℕ) → i + k ≡ s → for i s f t ≡ loop f i k t
@@ -64,7 +64,7 @@ module _ (n s : ℕ) (nine : s ≤ 9) where
   lockstep-square {t} l a hl h =
       let e : length (l ++ (a ∷ [])) ≡ length l + 1 = length-append l (a ∷ []) in
       lockstep-by-share (l ++ (a ∷ [])) (omega arith) h (λ i t c k p.
-      let v : cell t (length l) i ≡ share a i =
+      let v : tableCell t (length l) i ≡ share a i =
       p .cells (length l) i (omega arith)
       ∙ ap (λ (b : List ℕ). share b i) (List·getD-append (l ++ (a ∷ [])) (c ∷ []) [] (length l) (omega arith) ∙ getD-at l a [] [] (length l) refl) in
       rw (v, e) (lockstep-step (lockstep-return refl)))
@@ -74,7 +74,7 @@ module _ (n s : ℕ) (nine : s ≤ 9) where
       → Lockstep (λ t′ c. Holds s t′ (l ++ (c ∷ []))) (multiplyRows n s x y (length l) t) (product n s (nth l x) (nth l y))
   unfolding multiplyRows
   lockstep-multiply {t} l x y hl h =
-      rw (product-same n s (table.row t x) (nth l x) (table.row t y) (nth l y) (holds-row h x) (holds-row h y))
+      rw (product-same n s (table.tableRow t x) (nth l x) (table.tableRow t y) (nth l y) (holds-row h x) (holds-row h y))
       (lockstep-left (product n s (nth l x) (nth l y)) (put s t (length l)) (λ c. holds-put l c nine hl h))
 
   -- ---- the powers
@@ -134,39 +134,39 @@ module _ (n s : ℕ) (nine : s ≤ 9) where
 
   -- ---- the polynomials
 
-  term-same : (cs rec : List ℕ) (ws : List (List ℕ)) (t : List ℕ) (p i r u : ℕ) → getD rec (p + (r + 1)) 0 ≡ getD cs (r + 1) 0 → cell t r i ≡ share (nth ws r) i
-      → termAt n rec p i t r u ≡ term n cs ws i r u
+  term-same : (cs coefficients : List ℕ) (ws : List (List ℕ)) (t : List ℕ) (p i r u : ℕ) → getD coefficients (p + (r + 1)) 0 ≡ getD cs (r + 1) 0 → tableCell t r i ≡ share (nth ws r) i
+      → termAt n coefficients p i t r u ≡ term n cs ws i r u
   unfolding termAt term
-  term-same cs rec ws t p i r u e e′ = rw (e, e′)
+  term-same cs coefficients ws t p i r u e e′ = rw (e, e′)
 
-  module _ (k : ℕ) (listed : length (exponents n) - 1 ≡ k) (rec : List ℕ) (ws : List (List ℕ)) (powered : length ws ≡ k) where
+  module _ (k : ℕ) (listed : length (exponents n) - 1 ≡ k) (coefficients : List ℕ) (ws : List (List ℕ)) (powered : length ws ≡ k) where
     -- one polynomial, where m stand in the rows after the powers ws
-    lockstep-polynomial : {t : List ℕ} (m : List (List ℕ)) (j : ℕ) (cs : List ℕ) → length m ≡ j → k + j < 28 → Reads k rec j cs → Holds s t (ws ++ m)
-        → Lockstep (λ t′ c. Holds s t′ ((ws ++ m) ++ (c ∷ []))) (polynomialRow n k s rec j t) (polynomial n s ws cs)
+    lockstep-polynomial : {t : List ℕ} (m : List (List ℕ)) (j : ℕ) (cs : List ℕ) → length m ≡ j → k + j < 28 → Reads k coefficients j cs → Holds s t (ws ++ m)
+        → Lockstep (λ t′ c. Holds s t′ ((ws ++ m) ++ (c ∷ []))) (polynomialRow n k s coefficients j t) (polynomial n s ws cs)
     unfolding polynomialRow polynomial polynomialShare
     lockstep-polynomial m j cs lm few reads h =
         let z : length (ws ++ m) ≡ k + j = length-append ws m ∙ omega arith in
-        let p = 6 + j * (k + 1) in
-        let begin : getD cs 0 0 ≡ getD rec p 0 = let e : p + 0 ≡ p = omega arith in rw e at (reads .coefficient 0 (omega arith)) in
+        let p = j * (k + 1) in
+        let begin : getD cs 0 0 ≡ getD coefficients p 0 = let e : p + 0 ≡ p = omega arith in rw e at (reads .coefficient 0 (omega arith)) in
         lockstep-by-share (ws ++ m) (omega arith) h (λ i t c l q.
-        let power : (r : ℕ) → r < k → cell t r i ≡ share (nth ws r) i = λ r b.
+        let power : (r : ℕ) → r < k → tableCell t r i ≡ share (nth ws r) i = λ r b.
         q .cells r i (omega arith)
         ∙ ap (λ (a : List ℕ). share a i) (List·getD-append (ws ++ m) (c ∷ []) [] r (omega arith) ∙ List·getD-append ws m [] r (omega arith)) in
-        let turn : (r u : ℕ) → 0 ≤ r → r < k → termAt n rec p i t r u ≡ term n cs ws i r u = λ r u a b.
-        term-same cs rec ws t p i r u (sym (reads .coefficient (r + 1) (omega arith))) (power r b) in
-        rw (listed, ← z, begin, for-same 0 k (termAt n rec p i t) (term n cs ws i) (omega arith) turn (constant i (getD rec p 0)))
-        (lockstep-left (for 0 k (term n cs ws i) (constant i (getD rec p 0))) (setCell t (length (ws ++ m)) i) (λ u. refl)))
+        let turn : (r u : ℕ) → 0 ≤ r → r < k → termAt n coefficients p i t r u ≡ term n cs ws i r u = λ r u a b.
+        term-same cs coefficients ws t p i r u (sym (reads .coefficient (r + 1) (omega arith))) (power r b) in
+        rw (listed, ← z, begin, for-same 0 k (termAt n coefficients p i t) (term n cs ws i) (omega arith) turn (constant i (getD coefficients p 0)))
+        (lockstep-left (for 0 k (term n cs ws i) (constant i (getD coefficients p 0))) (setCell t (length (ws ++ m)) i) (λ u. refl)))
 
     -- several, from polynomial j on
     lockstep-polynomials : {t : List ℕ} (m : List (List ℕ)) (j : ℕ) (css : List (List ℕ)) → length m ≡ j → k + j + length css ≤ 28
-        → ((i : ℕ) → i < length css → Reads k rec (j + i) (nth css i)) → Holds s t (ws ++ m)
-        → Lockstep (λ t′ l. Holds s t′ (ws ++ (m ++ l)) × (length l ≡ length css)) (loop (polynomialRow n k s rec) j (length css) t) (polynomials n s ws css)
+        → ((i : ℕ) → i < length css → Reads k coefficients (j + i) (nth css i)) → Holds s t (ws ++ m)
+        → Lockstep (λ t′ l. Holds s t′ (ws ++ (m ++ l)) × (length l ≡ length css)) (loop (polynomialRow n k s coefficients) j (length css) t) (polynomials n s ws css)
     unfolding loop polynomials
     lockstep-polynomials {t} m j [] lm few reads h = lockstep-return {a = t} {b = []} (rw append-nil h, refl)
     lockstep-polynomials m j (cs ∷ css) lm few reads h =
         let here : j + 0 ≡ j = omega arith in
         lockstep-bind (lockstep-polynomial m j cs lm (omega arith) (rw here at (reads 0 (omega arith))) h) (λ t′ a p.
-        let next : (i : ℕ) → i < length css → Reads k rec (j + 1 + i) (nth css i) = λ i l.
+        let next : (i : ℕ) → i < length css → Reads k coefficients (j + 1 + i) (nth css i) = λ i l.
         let e : j + 1 + i ≡ j + suc i = omega arith in rw e (reads (suc i) (omega arith)) in
         lockstep-right
         (lockstep-polynomials (m ++ (a ∷ [])) (j + 1) css (length-append m (a ∷ []) ∙ omega arith) (omega arith) next (rw append-assoc at p))
@@ -177,8 +177,8 @@ module _ (n s : ℕ) (nine : s ≤ 9) where
   -- the products of the rows of ps and qs, k of them from number j on, where ts stand in the rows after l
   lockstep-products : {t : List ℕ} (k j q p : ℕ) (l ts ps qs : List (List ℕ)) → length ts ≡ j → length l + j + k ≤ 28
       → ((i : ℕ) → i < j + k → (p + i < length l) × (nth l (p + i) ≡ nth ps i) × (q + i < length l) × (nth l (q + i) ≡ nth qs i)) → Holds s t (l ++ ts)
-      → Lockstep (λ t′ m. Holds s t′ (l ++ (ts ++ m)) × (length m ≡ k)) (loop (productRow n s q p (length l)) j k t) (products n s ps qs j k)
-  unfolding loop products productRow
+      → Lockstep (λ t′ m. Holds s t′ (l ++ (ts ++ m)) × (length m ≡ k)) (loop (productRow n s q p (length l)) j k t) (formProducts n s ps qs j k)
+  unfolding loop formProducts productRow
   lockstep-products {t} zero j q p l ts ps qs e few rows h = lockstep-return {a = t} {b = []} (rw append-nil h, refl)
   lockstep-products (suc k) j q p l ts ps qs e few rows h =
       let z : length (l ++ ts) ≡ length l + j = length-append l ts ∙ omega arith in
@@ -200,7 +200,7 @@ module _ (n s : ℕ) (nine : s ≤ 9) where
     turn : ℕ → ℕ → ℕ → Run ℕ
     turn i j u = note (one i) (u ⊕ share (nth (ts ++ (c ∷ [])) (j + 1)) i)
 
-    product-cell : (i j : ℕ) → i < s → j < h → cell t (length l + j) i ≡ share (nth (ts ++ (c ∷ [])) j) i
+    product-cell : (i j : ℕ) → i < s → j < h → tableCell t (length l + j) i ≡ share (nth (ts ++ (c ∷ [])) j) i
     product-cell i j k m =
         holds .cells (length l + j) i k
         ∙ ap (λ (a : List ℕ). share a i) (getD-append-add l ts j [] ∙ sym (List·getD-append ts (c ∷ []) [] j (omega arith)))
@@ -212,7 +212,7 @@ module _ (n s : ℕ) (nine : s ≤ 9) where
     last-same : (i u : ℕ) → i < s → addRow i t (length l - 1) u ≡ for (h - 1) h (turn i) u
     unfolding addRow turn note _>>=_
     last-same i u k =
-        let e : cell t (length l - 1) i ≡ share c i =
+        let e : tableCell t (length l - 1) i ≡ share c i =
         holds .cells (length l - 1) i k ∙ ap (λ (a : List ℕ). share a i) (List·getD-append l ts [] (length l - 1) (omega arith) ∙ last) in
         let e′ : nth (ts ++ (c ∷ [])) (h - 1 + 1) ≡ c = getD-at ts c [] [] (h - 1 + 1) (omega arith) in
         rw (for-turn (h - 1) h (turn i) u (omega arith), for-end (h - 1 + 1) h (turn i) _ (omega arith), e, e′)
@@ -221,7 +221,7 @@ module _ (n s : ℕ) (nine : s ≤ 9) where
     unfolding totalShare
     total-share i k =
         let e : length l + 0 ≡ length l = omega arith in
-        let begin : cell t (length l) i ≡ share (nth (ts ++ (c ∷ [])) 0) i = rw e at (product-cell i 0 k some) in
+        let begin : tableCell t (length l) i ≡ share (nth (ts ++ (c ∷ [])) 0) i = rw e at (product-cell i 0 k some) in
         rw (begin, for-split 0 (h - 1) h (turn i) (share (nth (ts ++ (c ∷ [])) 0) i) (omega arith) (omega arith))
         (ap₂ (λ (m : Run ℕ) (f : ℕ → Run ℕ). m >>= f)
         (for-same 0 (h - 1) (λ j. addRow i t (length l + 1 + j)) (turn i) (omega arith) (λ j u a b. add-same i j u k b) (share (nth (ts ++ (c ∷ [])) 0) i))
@@ -248,7 +248,7 @@ module _ (n s : ℕ) (nine : s ≤ 9) where
     lockstep-sums : (t : List ℕ) (ws bs cs : List (List ℕ)) → length ws ≡ k → length bs ≡ h → length cs ≡ h + 1 → Holds s t (ws ++ (bs ++ cs))
         → Lockstep (λ (a b : List ℕ). a ≡ b)
         (for 0 h (productRow n s k (k + h) (k + (h + (h + 1)))) t >>= (λ t. byShare s (totalShare h (k + (h + (h + 1))) t)))
-        (products n s cs bs 0 h >>= (λ ts. total s (ts ++ (nth cs h ∷ [])) h))
+        (formProducts n s cs bs 0 h >>= (λ ts. total s (ts ++ (nth cs h ∷ [])) h))
     unfolding for
     lockstep-sums t ws bs cs ew eb ec p =
         let l = ws ++ (bs ++ cs) in
@@ -262,25 +262,25 @@ module _ (n s : ℕ) (nine : s ≤ 9) where
         (λ t′ ts q. rw (total-same t′ h l ts (nth cs h) some (q .1) (omega arith) last (q .0)) (lockstep-self _ (λ a. refl))))
 
     -- x and y have the same s shares, and qs and ps are the coefficients of the record's polynomials
-    module _ (rec : List ℕ) (qs ps : List (List ℕ)) (listed : length (exponents n) - 1 ≡ k) (eq : length qs ≡ h) (ep : length ps ≡ h + 1)
-        (rq : (i : ℕ) → i < length qs → Reads k rec (0 + i) (nth qs i)) (rp : (i : ℕ) → i < length ps → Reads k rec (h + i) (nth ps i)) where
+    module _ (coefficients : List ℕ) (qs ps : List (List ℕ)) (listed : length (exponents n) - 1 ≡ k) (eq : length qs ≡ h) (ep : length ps ≡ h + 1)
+        (rq : (i : ℕ) → i < length qs → Reads k coefficients (0 + i) (nth qs i)) (rp : (i : ℕ) → i < length ps → Reads k coefficients (h + i) (nth ps i)) where
       lockstep-forms : (t : List ℕ) (ws : List (List ℕ)) → length ws ≡ k → Holds s t ws
           → Lockstep (λ (a b : List ℕ). a ≡ b)
-          (for 0 (h + (h + 1)) (polynomialRow n k s rec) t
+          (for 0 (h + (h + 1)) (polynomialRow n k s coefficients) t
           >>= (λ t. for 0 h (productRow n s k (k + h) (k + (h + (h + 1)))) t >>= (λ t. byShare s (totalShare h (k + (h + (h + 1))) t))))
           (polynomials n s ws qs
-          >>= (λ bs. polynomials n s ws ps >>= (λ cs. products n s cs bs 0 (length qs) >>= (λ ts. total s (ts ++ (nth cs (length qs) ∷ [])) (length qs)))))
+          >>= (λ bs. polynomials n s ws ps >>= (λ cs. formProducts n s cs bs 0 (length qs) >>= (λ ts. total s (ts ++ (nth cs (length qs) ∷ [])) (length qs)))))
       lockstep-forms t ws ew p =
-          let f = polynomialRow n k s rec in
+          let f = polynomialRow n k s coefficients in
           rw (for-split 0 h (h + (h + 1)) f t (omega arith) (omega arith), bind-bind, for-times 0 h (length qs) f t (omega arith))
-          (lockstep-bind (lockstep-polynomials k listed rec ws ew [] 0 qs refl (omega arith) rq (rw append-nil p)) (λ t₁ bs q.
+          (lockstep-bind (lockstep-polynomials k listed coefficients ws ew [] 0 qs refl (omega arith) rq (rw append-nil p)) (λ t₁ bs q.
           rw (for-times h (h + (h + 1)) (length ps) f t₁ (omega arith))
-          (lockstep-bind (lockstep-polynomials k listed rec ws ew bs h ps (q .1 ∙ eq) (omega arith) rp (q .0)) (λ t₂ cs r.
+          (lockstep-bind (lockstep-polynomials k listed coefficients ws ew bs h ps (q .1 ∙ eq) (omega arith) rp (q .0)) (λ t₂ cs r.
           rw eq (lockstep-sums t₂ ws bs cs ew (q .1 ∙ eq) (r .1 ∙ ep) (r .0))))))
 
       -- the program of the code is that of the definition
       pub rows-same : (x y : List ℕ) → 0 < n → n * (1 + length (factors n)) ≤ 28 → n * (1 + length (factors n)) ≡ k → ((i : ℕ) → i < s → share x i ≡ share y i)
-          → sboxRows n k h s rec x ≡ sbox n s qs ps y
+          → sboxRows n k h s coefficients x ≡ sbox n s qs ps y
       unfolding sboxRows fillRows sbox
       rows-same x y some narrow made same =
           let t₀ = put s (replicate 252 0) 0 x in

@@ -17,7 +17,7 @@ use Rattle.steps.proofs.Sharing.{without-past}
 use Rattle.steps.proofs.Operations.{join-elements}
 use Rattle.steps.proofs.Call.{call-passed}
 use Rattle.decomposition.specs.Layout.{layout}
-use Rattle.decomposition.specs.Record.{widthOf}
+use Rattle.decomposition.specs.Record.{coefficientsOf, widthOf}
 use Rattle.decomposition.specs.Check.{recordForm, checkOutcome}
 use Rattle.decomposition.proofs.Sizes.{layout-width}
 use Rattle.decomposition.proofs.Theorems.{check-computes}
@@ -46,7 +46,7 @@ output-joins r s shares random out bytes e =
     let h = result-sharing accepted s (join shares) shares (elements n random) (call .some) (call .nine) shared (call .random-small) in
     without-past s (callResult (sboxCall r s shares random)) (h .past)
     ∙ h .joins
-    ∙ record-form n r (join shares)
+    ∙ record-form n (coefficientsOf r) (join shares)
 
 -- it writes s elements
 pub output-length : (r : List ℕ) (s : ℕ) (shares random : List ℕ) → length (sboxOutput r s shares random) ≡ s

@@ -9,7 +9,7 @@ use Rattle.steps.specs.Program.{Run, return, mark, _>>=_, for}
 use Rattle.steps.specs.Sharing.{share}
 use Rattle.steps.proofs.Program.{bind-bind, for-same}
 use Rattle.product.specs.Product.{product, start, row, pair}
-use Rattle.sbox.specs.Sbox.{factors, classesAfter, powers, term, polynomial, polynomials, products, total, sbox}
+use Rattle.sbox.specs.Sbox.{factors, classesAfter, powers, term, polynomial, polynomials, formProducts, total, sbox}
 use Rattle.product.specs.ByShare.{byShare, nth, square, squares, constant}
 
 -- the squares without the sharing that they begin with
@@ -84,6 +84,6 @@ module _ (n s : ℕ) (a b : List ℕ) (same : (i : ℕ) → share a i ≡ share 
   unfolding sbox powers _>>=_
   sbox-same qs ps =
       let g : List (List ℕ) → Run (List ℕ) = λ ws. polynomials n s ws qs >>= (λ bs. polynomials n s ws ps >>= (λ cs.
-      products n s cs bs 0 (length qs) >>= (λ ts. total s (ts ++ (nth cs (length qs) ∷ [])) (length qs)))) in
+      formProducts n s cs bs 0 (length qs) >>= (λ ts. total s (ts ++ (nth cs (length qs) ∷ [])) (length qs)))) in
       let same : (ws : List (List ℕ)) → g (a ∷ ws) ≡ g (b ∷ ws) = λ ws. simp polynomials-same in
       simp (squares-split, bind-bind, after-same, classes-same (factors n) g same)

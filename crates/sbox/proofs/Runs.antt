@@ -25,7 +25,7 @@ module _ {n : ℕ} {qs ps : List (List ℕ)} (accepted : AcceptedForm n qs ps) (
   shaped = rw (accepted .size) at (shaped-sbox (accepted .width) s x qs ps a some nine (accepted .coefficients) sharing)
 
   fits : Fits (bitsOf (sboxShape n s (basisSize n))) tape
-  fits = rw (sbox-bits n s (accepted .width)) (fits-small n (sboxDraws n s) tape elements)
+  fits = rw (sbox-bits n s) (fits-small n (sboxDraws n s) tape elements)
 
   -- the result is a sharing of the form at x, in nine places
   pub result-sharing : Sharing n s (formOf n qs ps x) (result (sbox n s qs ps a) tape)
@@ -36,10 +36,8 @@ module _ {n : ℕ} {qs ps : List (List ℕ)} (accepted : AcceptedForm n qs ps) (
 
   -- so many masked products, draws and steps are taken
   pub takes : Takes (sbox n s qs ps a) tape (sboxProducts n) (sboxDraws n s) (sboxSteps n s)
-  takes =
-      let w = accepted .width in
-      takes-shape shaped tape fits (sbox-products n s w) (sbox-draws n s w) (sbox-steps n s w)
+  takes = takes-shape shaped tape fits (sbox-products n s) (sbox-draws n s) (sbox-steps n s)
 
   -- the draws are of n bits each
   pub draws-are : draws (sbox n s qs ps a) tape ≡ replicate (sboxDraws n s) n
-  draws-are = shaped-draws shaped tape fits ∙ sbox-bits n s (accepted .width)
+  draws-are = shaped-draws shaped tape fits ∙ sbox-bits n s

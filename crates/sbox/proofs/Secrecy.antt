@@ -21,10 +21,11 @@ use Rattle.steps.proofs.Shape.{shaped-draws}
 use Rattle.steps.proofs.Choices.{tally-all, total-bits}
 use Rattle.steps.proofs.Splits.{split-trace}
 use Rattle.steps.proofs.Secrecy.{untouched-share, few-steps}
-use Rattle.sbox.specs.Sbox.{sbox}
+use Rattle.decomposition.specs.Layout.{termsOf}
+use Rattle.sbox.specs.Sbox.{factors, sbox}
 use Rattle.sbox.specs.Form.{formOf, basisSize, AcceptedForm}
 use Rattle.sbox.specs.Shape.{sboxShape}
-use Rattle.sbox.specs.Figures.{sboxDraws}
+use Rattle.sbox.specs.Figures.{productsFor, drawsFor, sboxDraws}
 use Rattle.sbox.specs.Experiment.{experiment, experimentShape, sboxInputs}
 use Rattle.sbox.proofs.Experiment.{experiment-bits, experiment-touches, shaped-experiment, coupled-experiment, stepNine, step-nine-choices}
 
@@ -51,7 +52,7 @@ module _ {n : ℕ} {qs ps : List (List ℕ)} (accepted : AcceptedForm n qs ps) (
   pub experiment-draws : 0 < s → s ≤ 9 → (x : ℕ) → x < 2 ^ n → (tape : List ℕ) → Fits (choiceBits (sboxInputs n s)) tape
       → draws (experiment n s qs ps x) tape ≡ choiceBits (sboxInputs n s)
   experiment-draws some nine x h tape f =
-      let e = experiment-bits n s (accepted .width) in
+      let e = experiment-bits n s in
       shaped-draws (shaped-experiment accepted s some nine x h) tape (rw e f) ∙ e
 
   -- ---- secrecy
@@ -62,7 +63,7 @@ module _ {n : ℕ} {qs ps : List (List ℕ)} (accepted : AcceptedForm n qs ps) (
       → (shown : List ℕ) (x y : ℕ) → x < 2 ^ n → y < 2 ^ n
       → choices (choiceBits (sboxInputs n s)) (experiment n s qs ps x) list shown ≡ choices (choiceBits (sboxInputs n s)) (experiment n s qs ps y) list shown
   sbox-few-steps nine t l list d =
-      rw (experiment-bits n s (accepted .width)) at
+      rw (experiment-bits n s) at
       (few-steps (λ x. x < 2 ^ n) (experiment n s qs ps) (experimentShape n s) (λ x c. (length c ≡ 9) × Sharing n s (formOf n qs ps x) c)
       (shaped-experiment accepted s (omega arith) nine) s (Close n) (coupled-experiment accepted s) t l list d)
 
@@ -71,7 +72,7 @@ module _ {n : ℕ} {qs ps : List (List ℕ)} (accepted : AcceptedForm n qs ps) (
       → (shown : List ℕ) (x y : ℕ) → x < 2 ^ n → y < 2 ^ n
       → choices (choiceBits (sboxInputs n s)) (experiment n s qs ps x) list shown ≡ choices (choiceBits (sboxInputs n s)) (experiment n s qs ps y) list shown
   sbox-untouched-share nine u l list h =
-      rw (experiment-bits n s (accepted .width)) at
+      rw (experiment-bits n s) at
       (untouched-share (λ x. x < 2 ^ n) (experiment n s qs ps) (experimentShape n s) (λ x c. (length c ≡ 9) × Sharing n s (formOf n qs ps x) c)
       (shaped-experiment accepted s (omega arith) nine) u (Close n u) (coupled-experiment accepted s u l) list (rw (experiment-touches n s) h))
 
@@ -79,7 +80,7 @@ module _ {n : ℕ} {qs ps : List (List ℕ)} (accepted : AcceptedForm n qs ps) (
 
 -- A two-share S-box at width 4 has 4,096 choices.
 pub two-shares : (qs ps : List (List ℕ)) (x : ℕ) → choices (choiceBits (sboxInputs 4 2)) (experiment 4 2 qs ps x) [] [] ≡ 4096
-unfolding sboxDraws
+unfolding sboxDraws drawsFor productsFor basisSize termsOf factors
 two-shares qs ps x = all-choices 4 2 qs ps x
 
 -- Its step 9 shows 0 in 256 of them if the secret is 0,

@@ -26,7 +26,7 @@ use Rattle.steps.proofs.Shape.{shaped-bind, shaped-map, shaped-weaken, shaped-n
 use Rattle.steps.proofs.Sharing.{forSum, for-sum-end, for-sum-same, join-for}
 use Rattle.product.specs.Product.{productShape}
 use Rattle.product.proofs.Shape.{shaped-product}
-use Rattle.sbox.specs.Sbox.{term, polynomial, polynomials, products, total, sbox}
+use Rattle.sbox.specs.Sbox.{term, polynomial, polynomials, formProducts, total, sbox}
 use Rattle.product.specs.ByShare.{nth, constant}
 use Rattle.sbox.specs.Form.{formOf, SmallAll, Coefficients}
 use Rattle.sbox.specs.Shape.{termShape, polynomialShape, totalShape, sboxShape}
@@ -132,8 +132,8 @@ module _ {n : ℕ} (w : Known n) (s x : ℕ) (some : 0 < s) (nine : s ≤ 9) whe
       both a l ha hl (suc k) = hl k
 
   shaped-products : (ps qs : List (List ℕ)) (v u : ℕ → ℕ) → ((i : ℕ) → Sharing n s (v i) (nth ps i)) → ((i : ℕ) → Sharing n s (u i) (nth qs i))
-      → (j k : ℕ) → Shaped (Each (Sharing n s) (upFrom (λ i. mul n (v i) (u i)) j k)) (times k (productShape n s)) (products n s ps qs j k)
-  unfolding products times upFrom
+      → (j k : ℕ) → Shaped (Each (Sharing n s) (upFrom (λ i. mul n (v i) (u i)) j k)) (times k (productShape n s)) (formProducts n s ps qs j k)
+  unfolding formProducts times upFrom
   shaped-products ps qs v u hp hq j zero = shaped-return each-nil
   shaped-products ps qs v u hp hq j (suc k) =
       shaped-bind (shaped-product (field-of n (known-width n w) .ring) s (v j) (u j) (nth ps j) (nth qs j) nine (hp j) (hq j)) λ a ha.

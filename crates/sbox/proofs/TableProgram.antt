@@ -1,36 +1,51 @@
--- The program of the code is that of the definition, at each width and for each record.
+-- The program of the code is that of the definition, at each width and for all coefficients.
 use mathlib.Core.Path.{_≡_, refl, ap, _∙_}
-use mathlib.Core.List.{List}
+use mathlib.Core.List.{List, []}
 use Prim.Native.Nat.{ℕ, suc, _+_, _*_, _≤_, _<_}
+use native.Mathlib.Nat.{le-refl}
 use native.Mathlib.Omega.{arith}
-use lib.ListN.{length, getD, drop}
+use lib.ListN.{length, getD, take, drop}
 use lib.Seq.{getD-take, getD-drop}
 use Rattle.field.specs.Polynomial.{exponents}
 use Rattle.field.proofs.Polynomial.{length-exponents-4, length-exponents-6}
+use Rattle.steps.specs.Fill.{tabulate}
 use Rattle.steps.specs.Sharing.{share}
-use Rattle.decomposition.specs.Layout.{termsOf, Known}
+use Rattle.steps.proofs.Fill.{length-tabulate, getD-tabulate}
+use Rattle.decomposition.specs.Layout.{termsOf, sized, layout, Known}
 use Rattle.decomposition.proofs.Sizes.{known-both}
 use Rattle.sbox.specs.Sbox.{factors, sbox}
 use Rattle.product.specs.ByShare.{nth}
-use Rattle.sbox.specs.Form.{basisSize}
-use Rattle.sbox.specs.Polynomials.{polynomialsOf, basisIn, solutionIn}
+use Rattle.sbox.specs.Form.{basisSize, basisIn, solutionIn}
 use Rattle.sbox.specs.TableSteps.{sboxRows}
-use Rattle.sbox.proofs.Record.{length-polynomials, nth-polynomials}
+use Rattle.sbox.proofs.TableRuns.{place-within}
 use Rattle.sbox.proofs.Lockstep.{Reads, rows-same}
 
 -- ---- the coefficients
 
--- those of a record, from polynomial j on
-reads-from : (k h j at : ℕ) (rec : List ℕ) → at ≡ 6 + j * (k + 1) → (i : ℕ) → i < h → Reads k rec (j + i) (nth (polynomialsOf (k + 1) h (drop at rec)) i)
-reads-from k h j at rec e i l = record {
-  coefficient = λ r b.
-      let place : at + (i * (k + 1) + r) ≡ 6 + (j + i) * (k + 1) + r = omega arith in
-      ap (λ (cs : List ℕ). getD cs r 0) (nth-polynomials (k + 1) h (drop at rec) i l)
-      ∙ getD-take (k + 1) (drop (i * (k + 1)) (drop at rec)) r 0 (omega arith)
-      ∙ getD-drop (i * (k + 1)) (drop at rec) r 0
-      ∙ getD-drop at rec (i * (k + 1) + r) 0
-      ∙ ap (λ (x : ℕ). getD rec x 0) place;
+-- the first h of a part l of the coefficients, which are those of all from polynomial j on
+reads-part : (k h j : ℕ) (cs l : List ℕ) → ((i r : ℕ) → i < h → r ≤ k → getD l (i * (k + 1) + r) 0 ≡ getD cs ((j + i) * (k + 1) + r) 0)
+    → (i : ℕ) → i < h → Reads k cs (j + i) (nth (tabulate h (λ i. take (k + 1) (drop (i * (k + 1)) l))) i)
+reads-part k h j cs l same i b = record {
+  coefficient = λ r c.
+      ap (λ (p : List ℕ). getD p r 0) (getD-tabulate h (λ i. take (k + 1) (drop (i * (k + 1)) l)) i [] b)
+      ∙ getD-take (k + 1) (drop (i * (k + 1)) l) r 0 (omega arith)
+      ∙ getD-drop (i * (k + 1)) l r 0
+      ∙ same i r b c;
 }
+
+-- the basis
+reads-basis : (k h : ℕ) (cs : List ℕ) (i : ℕ) → i < h → Reads k cs (0 + i) (nth (tabulate h (λ i. take (k + 1) (drop (i * (k + 1)) (take (h * (k + 1)) cs)))) i)
+reads-basis k h cs =
+    reads-part k h 0 cs (take (h * (k + 1)) cs)
+    (λ i r b c. let e : (0 + i) * (k + 1) + r ≡ i * (k + 1) + r = omega arith in
+    rw e (getD-take (h * (k + 1)) cs (i * (k + 1) + r) 0 (omega (arith, place-within k b (le-refl (h * (k + 1)))))))
+
+-- and what follows it
+reads-solution : (k h m : ℕ) (cs : List ℕ) (i : ℕ) → i < m → Reads k cs (h + i) (nth (tabulate m (λ i. take (k + 1) (drop (i * (k + 1)) (drop (h * (k + 1)) cs)))) i)
+reads-solution k h m cs =
+    reads-part k m h cs (drop (h * (k + 1)) cs)
+    (λ i r b c. let e : h * (k + 1) + (i * (k + 1) + r) ≡ (h + i) * (k + 1) + r = omega arith in
+    getD-drop (h * (k + 1)) cs (i * (k + 1) + r) 0 ∙ ap (λ (x : ℕ). getD cs x 0) e)
 
 -- ---- the sizes of a width
 
@@ -56,17 +71,17 @@ sizes k h =
 
 -- x and y have the same s shares
 pub rows-are-sbox : (n k h s : ℕ) → Known n → length (exponents n) ≡ k + 1 → basisSize n ≡ h → s ≤ 9
-    → (rec x y : List ℕ) → ((i : ℕ) → i < s → share x i ≡ share y i)
-    → sboxRows n k h s rec x ≡ sbox n s (basisIn n rec) (solutionIn n rec) y
-unfolding basisIn solutionIn
-rows-are-sbox n k h s w ek eh nine rec x y same =
+    → (cs x y : List ℕ) → ((i : ℕ) → i < s → share x i ≡ share y i)
+    → sboxRows n k h s cs x ≡ sbox n s (basisIn n cs) (solutionIn n cs) y
+unfolding basisIn solutionIn basisSize layout sized
+rows-are-sbox n k h s w ek eh nine cs x y same =
     let z = sizes k h n w ek eh in
     let m = k + 1 in
-    let qs = polynomialsOf m h (drop 6 rec) in
-    let ps = polynomialsOf m (suc h) (drop (6 + h * m) rec) in
-    let lq : length qs ≡ h = length-polynomials m h (drop 6 rec) in
-    let lp : length ps ≡ suc h = length-polynomials m (suc h) (drop (6 + h * m) rec) in
+    let q : ℕ → List ℕ = λ i. take m (drop (i * m) (take (h * m) cs)) in
+    let p : ℕ → List ℕ = λ i. take m (drop (i * m) (drop (h * m) cs)) in
+    let lq : length (tabulate h q) ≡ h = length-tabulate h q in
+    let lp : length (tabulate (suc h) p) ≡ suc h = length-tabulate (suc h) p in
     rw (ek, eh)
-    (rows-same n s nine k h (z .some) (z .few) rec qs ps (omega arith) lq (omega arith)
-    (λ i l. reads-from k h 0 6 rec (omega arith) i (omega arith))
-    (λ i l. reads-from k (suc h) h (6 + h * m) rec refl i (omega arith)) x y (z .wide) (omega (arith, z .made, z .few)) (z .made) same)
+    (rows-same n s nine k h (z .some) (z .few) cs (tabulate h q) (tabulate (suc h) p) (omega arith) lq (omega arith)
+    (λ i l. reads-basis k h cs i (omega arith))
+    (λ i l. reads-solution k h (suc h) cs i (omega arith)) x y (z .wide) (omega (arith, z .made, z .few)) (z .made) same)

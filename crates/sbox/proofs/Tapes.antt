@@ -13,10 +13,10 @@ use Rattle.steps.specs.Choices.{Fits}
 use Rattle.steps.specs.Settled.{Choice, choiceBits, MasksFor, masks-nil, masks-cons, masksThen, Chosen, Settles, settles-nil, settles-cons, Settled}
 use Rattle.steps.proofs.Chosen.{choice-tape, tape-choice}
 use Rattle.decomposition.specs.Layout.{Known}
-use Rattle.decomposition.specs.Record.{widthOf, readOutcome}
+use Rattle.decomposition.specs.Record.{coefficientsOf, widthOf, readOutcome}
 use Rattle.decomposition.proofs.ReadOutcome.{read-accepted}
 use Rattle.sbox.specs.Figures.{figures, sboxSteps}
-use Rattle.sbox.specs.Polynomials.{basisIn, solutionIn}
+use Rattle.sbox.specs.Form.{basisIn, solutionIn}
 use Rattle.sbox.specs.Experiment.{experiment, sboxInputs}
 use Rattle.sbox.specs.Operations.{watchOutcome, watchOutput}
 use Rattle.sbox.proofs.Counts.{sbox-full}
@@ -37,7 +37,7 @@ tape-chosen n s w = tape-choice (sboxInputs n s) (sbox-full n s w)
 shown : (r : List ℕ) (n s : ℕ) → widthOf r ≡ n → (x : ℕ) {masks : List (List ℕ)} {shares : List ℕ} (random list : List ℕ)
     → MasksFor s (sboxInputs n s .secrets) masks → Settles (sboxInputs n s .secrets) (x ∷ []) masks (shares ∷ [])
     → watchOutput r s shares random list
-    ≡ watched list (trace (experiment n s (basisIn n r) (solutionIn n r) x) (masksThen masks (elements n random)))
+    ≡ watched list (trace (experiment n s (basisIn n (coefficientsOf r)) (solutionIn n (coefficientsOf r)) x) (masksThen masks (elements n random)))
 unfolding masksThen
 shown r n s named x random list (masks-cons {l = l} e small masks-nil) (settles-cons h is settles-nil) =
     rw is (rw named at (watch-shows r s x l random list e))
@@ -46,10 +46,10 @@ pub tape-watched : (r : List ℕ) (n s : ℕ) → readOutcome r ≡ done (n ∷ 
     → (c : Chosen (sboxInputs n s) tape) → Settles (sboxInputs n s .secrets) (x ∷ []) (c .masks) (shares ∷ [])
     → (list : List ℕ) → length list ≤ 64 → ((k : ℕ) → getD list k 0 < sboxSteps n s)
     → (watchOutcome r s shares (c .random) list (length list) ≡ done (figures n s))
-    × (watchOutput r s shares (c .random) list ≡ watched list (trace (experiment n s (basisIn n r) (solutionIn n r) x) tape))
+    × (watchOutput r s shares (c .random) list ≡ watched list (trace (experiment n s (basisIn n (coefficientsOf r)) (solutionIn n (coefficientsOf r)) x) tape))
 tape-watched r n s read some nine x {tape} {shares} c h list few below =
     let settled : Settled (sboxInputs n s) (shares ∷ []) (c .random) = record { values = x ∷ []; masks = c .masks; choice = c .choice; settles = h } in
     let shows = shown r n s (read-accepted r n read .named) x (c .random) list (c .choice .masks-are) h in (
       watch-accepted r n s read some nine shares (c .random) settled list few below,
-      shows ∙ ap (λ (t : List ℕ). watched list (trace (experiment n s (basisIn n r) (solutionIn n r) x) t)) (sym (c .tape-is)),
+      shows ∙ ap (λ (t : List ℕ). watched list (trace (experiment n s (basisIn n (coefficientsOf r)) (solutionIn n (coefficientsOf r)) x) t)) (sym (c .tape-is)),
     )

@@ -1,22 +1,44 @@
--- The figures of the masked S-box at width n, of s shares: how many masked products, random elements and steps there are. Each is 0 at a width
--- without decompositions.
-use mathlib.Core.Bool.{cond}
+-- The figures of the masked S-box: how many masked products, random elements and steps there are.
 use mathlib.Core.List.{List, [], _∷_}
 use Prim.Native.Nat.{ℕ, _+_, _-_, _*_, _/_}
-use lib.Dec.{eqb}
+use lib.ListN.{length}
+use Rattle.field.specs.Polynomial.{exponents}
 use Rattle.steps.specs.Tape.{bytesFor}
+use Rattle.sbox.specs.Sbox.{factors}
+use Rattle.sbox.specs.Form.{basisSize}
 
--- masked products
+-- ---- at width n, with h = t - 1 polynomials in the basis, of s shares
+
+-- masked products: the first power of each class after that of x, and p1 · q1 to ph · qh
+unfoldable pub productsFor : ℕ → ℕ → ℕ
+productsFor n h = length (factors n) + h
+
+-- steps of each share outside the masked products: n - 1 squares in each class; a product and a sum for each coefficient, but the constant, of h and of
+-- h + 1 polynomials; h sums
+unfoldable pub ownSteps : ℕ → ℕ → ℕ
+ownSteps n h = (n - 1) * (1 + length (factors n)) + (length (exponents n) - 1) * 2 * (h + (h + 1)) + h
+
+-- random elements: s(s - 1)/2 for each masked product
+unfoldable pub drawsFor : ℕ → ℕ → ℕ → ℕ
+drawsFor n h s = productsFor n h * (s * (s - 1) / 2)
+
+-- steps: s + 7 s(s - 1)/2 in each masked product
+unfoldable pub stepsFor : ℕ → ℕ → ℕ → ℕ
+stepsFor n h s = ownSteps n h * s + productsFor n h * (s + 7 * (s * (s - 1) / 2))
+
+-- ---- with the basis of a record of width n (proofs/Counts.antt, `figures-4` and `figures-6`)
+
+-- masked products: 2 at width 4, 5 at width 6
 unfoldable pub sboxProducts : ℕ → ℕ
-sboxProducts n = cond (eqb n 4) 2 (cond (eqb n 6) 5 0)
+sboxProducts n = productsFor n (basisSize n)
 
--- random elements
+-- random elements: s(s - 1) and 5 s(s - 1)/2
 unfoldable pub sboxDraws : ℕ → ℕ → ℕ
-sboxDraws n s = cond (eqb n 4) (s * (s - 1)) (cond (eqb n 6) (5 * (s * (s - 1)) / 2) 0)
+sboxDraws n s = drawsFor n (basisSize n) s
 
--- steps
+-- steps: 57 s + 7 s(s - 1) and 275 s + 35 s(s - 1)/2
 unfoldable pub sboxSteps : ℕ → ℕ → ℕ
-sboxSteps n s = cond (eqb n 4) (57 * s + 7 * (s * (s - 1))) (cond (eqb n 6) (275 * s + 35 * (s * (s - 1)) / 2) 0)
+sboxSteps n s = stepsFor n (basisSize n) s
 
 -- what a call or a watch hands back: masked products, random bytes, steps
 unfoldable pub figures : ℕ → ℕ → List ℕ

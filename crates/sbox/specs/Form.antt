@@ -1,18 +1,21 @@
--- What the masked S-box computes: the form p1 · q1 + .. + p(t-1) · q(t-1) + pt at the joined input.
+-- What the masked S-box computes: the form p1 · q1 + .. + p(t-1) · q(t-1) + pt at the joined input, of polynomials as lists of coefficients.
 use mathlib.Core.Path.{_≡_}
 use mathlib.Core.List.{List}
 use Prim.Native.Nat.{ℕ, suc, _-_}
 use lib.ListN.{length}
-use Rattle.xor.specs.Xor.{_⊕_}
-use Rattle.xor.specs.Sum.{sumOf, Small}
-use Rattle.field.specs.Mul.{mul}
+use Rattle.xor.specs.Sum.{Small}
 use Rattle.field.specs.Polynomial.{value}
-use Rattle.decomposition.specs.Layout.{termsOf, Known}
+use Rattle.steps.specs.Fill.{tabulate}
+use Rattle.decomposition.specs.Layout.{termsOf, layout, Known}
+use Rattle.decomposition.specs.Form.{formOfValues, polynomialIn}
+use Rattle.decomposition.specs.Record.{basisOf, solutionOf}
 use Rattle.product.specs.ByShare.{nth}
 
--- the form at x: qs has the coefficients of the basis q1 to q(t-1), ps those of p1 to pt
+-- ---- the form
+
+-- at x: qs has the coefficients of the basis q1 to q(t-1), ps those of p1 to pt
 unfoldable pub formOf : ℕ → List (List ℕ) → List (List ℕ) → ℕ → ℕ
-formOf n qs ps x = sumOf (length qs) (λ i. mul n (value n (nth ps i) x) (value n (nth qs i) x)) ⊕ value n (nth ps (length qs)) x
+formOf n qs ps x = formOfValues n (length qs) (λ i. value n (nth qs i) x) (λ i. value n (nth ps i) x)
 
 -- all coefficients of these polynomials are below 2 ^ n
 abbrev pub SmallAll : ℕ → List (List ℕ) → Type 0
@@ -24,9 +27,19 @@ pub record Coefficients (n : ℕ) (qs ps : List (List ℕ)) : Type 0 where
   pub small-basis : SmallAll n qs
   pub small : SmallAll n ps
 
+-- ---- the polynomials of a record
+
 -- t - 1, the number of polynomials in the basis, by width
 unfoldable pub basisSize : ℕ → ℕ
 basisSize n = termsOf n - 1
+
+-- the basis among a record's coefficients, at width n
+unfoldable pub basisIn : ℕ → List ℕ → List (List ℕ)
+basisIn n coefficients = tabulate (basisSize n) (polynomialIn (layout n) (basisOf (layout n) coefficients))
+
+-- and p1 to pt
+unfoldable pub solutionIn : ℕ → List ℕ → List (List ℕ)
+solutionIn n coefficients = tabulate (suc (basisSize n)) (polynomialIn (layout n) (solutionOf (layout n) coefficients))
 
 -- qs and ps are what an accepted record gives: the coefficients of a form of t terms, at a width that has decompositions
 pub record AcceptedForm (n : ℕ) (qs ps : List (List ℕ)) : Type 0 where

@@ -15,10 +15,10 @@ use Rattle.steps.specs.Call as call
 use Rattle.steps.specs.Sharing.{share}
 use Rattle.steps.specs.Fill.{tabulate}
 use Rattle.steps.specs.Tape.{elements, bytesFor}
-use Rattle.decomposition.specs.Record.{widthOf, readOutcome, Accepted}
+use Rattle.decomposition.specs.Record.{coefficientsOf, widthOf, readOutcome, Accepted}
 use Rattle.sbox.specs.Sbox.{sbox}
 use Rattle.sbox.specs.Figures.{sboxDraws, sboxSteps}
-use Rattle.sbox.specs.Polynomials.{basisIn, solutionIn}
+use Rattle.sbox.specs.Form.{basisIn, solutionIn}
 use Rattle.sbox.specs.declared.arguments.Tested.{Tested}
 use Rattle.sbox.specs.declared.arguments.Tested.the-variants.{Passed, Refused}
 use Rattle.sbox.specs.declared.substituting.SboxAnswer.{SboxAnswer}
@@ -30,7 +30,7 @@ use Rattle.sbox.specs.declared.watching.WatchAnswer.the-variants.{Done a
 
 -- the masked S-box of the shares by the record's polynomials
 unfoldable pub callProgram : List ℕ → ℕ → List ℕ → Run (List ℕ)
-callProgram r s shares = sbox (widthOf r) s (basisIn (widthOf r) r) (solutionIn (widthOf r) r) shares
+callProgram r s shares = sbox (widthOf r) s (basisIn (widthOf r) (coefficientsOf r)) (solutionIn (widthOf r) (coefficientsOf r)) shares
 
 -- ---- the tests of both operations
 

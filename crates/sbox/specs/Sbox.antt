@@ -56,11 +56,11 @@ polynomials n s ws (cs ∷ css) = do
 -- ---- the form p1 · q1 + .. + p(t-1) · q(t-1) + pt
 
 -- the masked products of the first k of the ps and the qs, from number j on
-unfoldable pub products : ℕ → ℕ → List (List ℕ) → List (List ℕ) → ℕ → ℕ → Run (List (List ℕ))
-products n s ps qs j zero = return []
-products n s ps qs j (suc k) = do
+unfoldable pub formProducts : ℕ → ℕ → List (List ℕ) → List (List ℕ) → ℕ → ℕ → Run (List (List ℕ))
+formProducts n s ps qs j zero = return []
+formProducts n s ps qs j (suc k) = do
   a ← product n s (nth ps j) (nth qs j)
-  l ← products n s ps qs (suc j) k
+  l ← formProducts n s ps qs (suc j) k
   return (a ∷ l)
 
 -- the first of k + 1 sharings, plus the others in order
@@ -73,5 +73,5 @@ sbox n s qs ps x = do
   ws ← powers n s x
   bs ← polynomials n s ws qs
   cs ← polynomials n s ws ps
-  ts ← products n s cs bs 0 (length qs)
+  ts ← formProducts n s cs bs 0 (length qs)
   total s (ts ++ (nth cs (length qs) ∷ [])) (length qs)

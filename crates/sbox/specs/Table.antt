@@ -5,16 +5,16 @@ use lib.ListN.{getD, drop, set}
 use Rattle.steps.specs.Sharing.{share}
 
 -- share i of row r
-unfoldable pub cell : List ℕ → ℕ → ℕ → ℕ
-cell t r i = getD t (9 * r + i) 0
+unfoldable pub tableCell : List ℕ → ℕ → ℕ → ℕ
+tableCell t r i = getD t (9 * r + i) 0
 
 -- the table with v there
 unfoldable pub setCell : List ℕ → ℕ → ℕ → ℕ → List ℕ
 setCell t r i v = set t (9 * r + i) v
 
 -- row r: the table from there on, of which the first nine places count
-abbrev pub row : List ℕ → ℕ → List ℕ
-row t r = drop (9 * r) t
+abbrev pub tableRow : List ℕ → ℕ → List ℕ
+tableRow t r = drop (9 * r) t
 
 -- the table with the first s shares of c in row r
 unfoldable pub put : ℕ → List ℕ → ℕ → List ℕ → List ℕ

@@ -8,6 +8,7 @@ ghost use Rattle.steps.specs.Tape.{elements};
 ghost use Rattle.steps.specs.Machine.{zeroCounts, Went};
 ghost use Rattle.sbox.specs.Operations.{callProgram, SameShares, Callable};
 use crate::evaluation::run;
+use decomposition::layouts::HEAD;
 use product::Masked;
 use steps::Counts;
 
@@ -43,7 +44,7 @@ pub fn call(
 {
     let x = nine(shares);
     let n = Counts::zero();
-    run(width, s, rec, &x, random, watch, values, n)
+    run(width, s, &rec[HEAD..], &x, random, watch, values, n)
 }
 
 // The first shares of c are copied out.

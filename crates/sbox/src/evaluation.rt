@@ -1,13 +1,11 @@
 // The masked S-box of a sharing.
 ghost use Prim.Native.Nat.{_+_, _*_, _<_, _≤_};
 ghost use lib.ListN.{length};
-ghost use Rattle.decomposition.specs.Layout.{Known};
-ghost use Rattle.field.specs.Polynomial.{exponents};
+ghost use Rattle.decomposition.specs.Layout.{layout, Known};
 ghost use Rattle.steps.specs.Tape.{elements};
 ghost use Rattle.steps.specs.Machine.{Ready, Went};
 ghost use Rattle.sbox.specs.Sbox.{sbox};
-ghost use Rattle.sbox.specs.Form.{basisSize};
-ghost use Rattle.sbox.specs.Polynomials.{basisIn, solutionIn};
+ghost use Rattle.sbox.specs.Form.{basisIn, solutionIn};
 ghost use Rattle.sbox.specs.TableSteps as spec;
 use crate::polynomial_rows::polynomials;
 use crate::power_rows::powers;
@@ -23,7 +21,7 @@ fn fill_rows(
     k: usize,
     h: usize,
     s: usize,
-    rec: &[u8],
+    coefficients: &[u8],
     random: &[u8],
     watch: &[u32],
     values: &mut [u8],
@@ -31,11 +29,11 @@ fn fill_rows(
     n: Counts,
 ) -> Counts
     requires { ⌜ Known width ⌝ }
-    requires { ⌜ (s ≤ 9) × (k ≤ 18) × (h ≤ 3) × (6 + (h + (h + 1)) * (k + 1) ≤ length (now rec)) ⌝ }
+    requires { ⌜ (s ≤ 9) × (k ≤ 18) × (h ≤ 3) × ((h + (h + 1)) * (k + 1) ≤ length (now coefficients)) ⌝ }
     requires { ⌜ Ready (elements width (now random)) (now watch)
-        (spec.fillRows width k h s (now rec) (now t)) n (now values) ⌝ }
+        (spec.fillRows width k h s (now coefficients) (now t)) n (now values) ⌝ }
     ensures { λ w. ⌜ Went (elements width (now (random .entry))) (now (watch .entry))
-        (spec.fillRows width k h s (now (rec .entry)) (now (t .entry)))
+        (spec.fillRows width k h s (now (coefficients .entry)) (now (t .entry)))
         n (now (values .entry)) (now (t .exit)) w (now (values .exit)) ⌝ }
 {
     let n = powers(width, s, random, watch, &mut *values, &mut *t, n);
@@ -44,7 +42,7 @@ fn fill_rows(
         width,
         k,
         s,
-        rec,
+        coefficients,
         count,
         watch,
         &mut *values,
@@ -73,7 +71,7 @@ fn evaluate(
     k: usize,
     h: usize,
     s: usize,
-    rec: &[u8],
+    coefficients: &[u8],
     x: &[u8; 9],
     random: &[u8],
     watch: &[u32],
@@ -81,16 +79,27 @@ fn evaluate(
     n: Counts,
 ) -> Masked
     requires { ⌜ Known width ⌝ }
-    requires { ⌜ (s ≤ 9) × (k ≤ 18) × (0 < h) × (h ≤ 3) × (6 + (h + (h + 1)) * (k + 1) ≤ length (now rec)) ⌝ }
+    requires { ⌜ (s ≤ 9) × (k ≤ 18) × (0 < h) × (h ≤ 3) × ((h + (h + 1)) * (k + 1) ≤ length (now coefficients)) ⌝ }
     requires { ⌜ Ready (elements width (now random)) (now watch)
-        (spec.sboxRows width k h s (now rec) (now x)) n (now values) ⌝ }
+        (spec.sboxRows width k h s (now coefficients) (now x)) n (now values) ⌝ }
     ensures { λ w. ⌜ Went (elements width (now (random .entry))) (now (watch .entry))
-        (spec.sboxRows width k h s (now (rec .entry)) (now (x .entry)))
+        (spec.sboxRows width k h s (now (coefficients .entry)) (now (x .entry)))
         n (now (values .entry)) (w .shares) (w .counts) (now (values .exit)) ⌝ }
 {
     let mut t = [0u8; 252];
     put(&mut t, s, 0, x);
-    let n = fill_rows(width, k, h, s, rec, random, watch, &mut *values, &mut t, n);
+    let n = fill_rows(
+        width,
+        k,
+        h,
+        s,
+        coefficients,
+        random,
+        watch,
+        &mut *values,
+        &mut t,
+        n,
+    );
     let u = totals(s, h, k + (h + (h + 1)), watch, values, &t, n.steps);
     let shares = u.shares;
     Masked {
@@ -99,12 +108,12 @@ fn evaluate(
     }
 }
 
-// The masked S-box of the sharing x, of s shares, by a record of the width. The width is tested here, so that the numbers of powers and products
+// The masked S-box of the sharing x, of s shares, by the coefficients of a record of the width. The width is tested here, so that the numbers of powers and products
 // are known in each case.
 pub fn run(
     width: u32,
     s: usize,
-    rec: &[u8],
+    coefficients: &[u8],
     x: &[u8; 9],
     random: &[u8],
     watch: &[u32],
@@ -112,16 +121,16 @@ pub fn run(
     n: Counts,
 ) -> Masked
     requires { ⌜ Known width ⌝ }
-    requires { ⌜ (s ≤ 9) × (6 + (basisSize width + (basisSize width + 1)) * length (exponents width) ≤ length (now rec)) ⌝ }
+    requires { ⌜ (s ≤ 9) × (layout width .coefficients ≤ length (now coefficients)) ⌝ }
     requires { ⌜ Ready (elements width (now random)) (now watch)
-        (sbox width s (basisIn width (now rec)) (solutionIn width (now rec)) (now x)) n (now values) ⌝ }
+        (sbox width s (basisIn width (now coefficients)) (solutionIn width (now coefficients)) (now x)) n (now values) ⌝ }
     ensures { λ w. ⌜ Went (elements width (now (random .entry))) (now (watch .entry))
-        (sbox width s (basisIn width (now (rec .entry))) (solutionIn width (now (rec .entry))) (now (x .entry)))
+        (sbox width s (basisIn width (now (coefficients .entry))) (solutionIn width (now (coefficients .entry))) (now (x .entry)))
         n (now (values .entry)) (w .shares) (w .counts) (now (values .exit)) ⌝ }
 {
     if width == 4 {
-        evaluate(4, 8, 1, s, rec, x, random, watch, values, n)
+        evaluate(4, 8, 1, s, coefficients, x, random, watch, values, n)
     } else {
-        evaluate(6, 18, 3, s, rec, x, random, watch, values, n)
+        evaluate(6, 18, 3, s, coefficients, x, random, watch, values, n)
     }
 }

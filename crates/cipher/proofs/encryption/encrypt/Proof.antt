@@ -1,8 +1,13 @@
 -- `encryption::encrypt` meets its contract: the state is loaded, the rounds run, and the last round key is added.
+use Prim.Native.Nat.{_≤_}
 use native.Mathlib.Omega.{arith}
+use lib.ListN.{length, length-drop}
 use borrow.Author.Needs.{needs}
 use Rattle.steps.proofs.Parts.{ready-first, ready-next, went-then}
 use Rattle.steps.proofs.StepsAlone.{ready-steps, went-counted}
+use Rattle.decomposition.specs.Layout.{head, layout}
+use Rattle.decomposition.specs.Record.{coefficientsOf}
+use Rattle.decomposition.proofs.Tests.{whole-part}
 use Rattle.present.specs.Masked.{maskedEncrypt}
 use Rattle.steps.specs.ShareBytes.{sharing}
 use Rattle.steps.proofs.Past.{zero-kept}
@@ -16,22 +21,34 @@ abbrev loaded : tie.After-rounds → tie.After-load
 loaded c = c .before .before
 
 abbrev start : tie.After-load → tie.Start
-start c = c .before .before .before .before .before .before .before
+start c = c .before .before .before .before .before .before .before .before
 
 load-requires : tie.Need-load-requires
 load-requires c κs = search needs
 
+sub-coefficients : tie.Need-sub-coefficients
+sub-coefficients c = omega (arith, c .before .before .before .before .before .before .pre .0 .2)
+
+part-coefficients-start : tie.Need-part-coefficients-start
+part-coefficients-start c = let h = c .before .before .before .before .before .before .pre .0 .2 in search needs
+
+part-coefficients-end : tie.Need-part-coefficients-end
+part-coefficients-end c = let h = c .before .before .before .before .before .before .pre .0 .2 in search needs
+
 rounds-requires : tie.Need-rounds-requires
 unfolding callProgram maskedEncrypt sharing
 rounds-requires c κs =
-    let h = start (c .before) .pre in
-    let l = c .before .load .ensures in
-    let s = start (c .before) .args .s in (
-      (h .0 .0, h .0 .1, h .0 .2),
+    let d = c .before in
+    let h = start d .pre in
+    let l = d .load .ensures in
+    let s = start d .args .s in
+    let r = start d .args .rec .now in
+    let long : layout 4 .coefficients ≤ length (coefficientsOf r) = omega (arith, length-drop head r, h .0 .2) in (
+      (h .0 .0, h .0 .1, rw (whole-part head r) long),
       (
-        h .1 .0,
+        rw (whole-part head r) (h .1 .0),
         (
-          rw (l .nothing-taken, l .key-loaded s, l .block-loaded s) (ready-first _ _ (h .1 .1)),
+          rw (l .nothing-taken, l .key-loaded s, l .block-loaded s, whole-part head r) (ready-first _ _ (h .1 .1)),
           l .zero-past s (search needs) (search needs),
         ),
       ),
@@ -44,7 +61,8 @@ add-round-key-requires c κs =
     let h = start (loaded d) .pre in
     let s = start (loaded d) .args .s in
     let l = loaded d .load .ensures in
-    let w = rw (l .nothing-taken, l .key-loaded s, l .block-loaded s) at (d .rounds .ensures .0) in
+    let r = start (loaded d) .args .rec .now in
+    let w = rw (l .nothing-taken, l .key-loaded s, l .block-loaded s, whole-part head r) at (d .rounds .ensures .0) in
     (h .0 .1, ready-steps (addition-alone _ _ _) (ready-next _ (h .1 .1) w (omega (arith, d .rounds .kept))))
 
 returns : tie.Need-returns
@@ -53,7 +71,8 @@ returns c =
     let d = c .before .before .before .before .before .before .before .before .before .before .before .before in
     let s = start (loaded d) .args .s in
     let l = loaded d .load .ensures in
-    let w = rw (l .nothing-taken, l .key-loaded s, l .block-loaded s) at (d .rounds .ensures .0) in
+    let r = start (loaded d) .args .rec .now in
+    let w = rw (l .nothing-taken, l .key-loaded s, l .block-loaded s, whole-part head r) at (d .rounds .ensures .0) in
     let added = c .before .before .before .add-round-key .ensures in (
       went-then _ w (went-counted (addition-alone _ _ _) (c .with-steps .ensures) (added .0)),
       zero-kept (d .rounds .ensures .1 .block-zero) (added .1),
@@ -61,4 +80,14 @@ returns c =
 
 pub encrypt-spec : {M : Type 1} → statement M
 encrypt-spec =
-    tie.close (tie.spec load-requires rounds-requires add-round-key-requires (λ c κs. search needs) (λ c. search needs) returns)
+    tie.close
+    (tie.spec
+    sub-coefficients
+    part-coefficients-start
+    part-coefficients-end
+    load-requires
+    rounds-requires
+    add-round-key-requires
+    (λ c κs. search needs)
+    (λ c. search needs)
+    returns)

@@ -12,13 +12,13 @@ use Rattle.cipher.proofs.rounds.rounds.Statement.{statement}
 use Rattle.cipher.proofs.rounds.rounds.Tie as tie
 
 abbrev Inv-loop : tie.InvT-loop
-Inv-loop s rec random watch values₀ t₀ r₀ values t r =
+Inv-loop s coefficients random watch values₀ t₀ r₀ values t r =
     (Going (elements 4 random) watch
-    (maskedRound (recordSbox s rec) size80 s) 1 32 (sharings s t₀) (t₀ .counts) values₀ r (sharings s t) (t .counts) values)
+    (maskedRound (recordSbox s coefficients) size80 s) 1 32 (sharings s t₀) (t₀ .counts) values₀ r (sharings s t) (t .counts) values)
     × ZeroPastShares s t
 
 abbrev μ-loop : tie.MeasureT-loop
-μ-loop s rec random watch values₀ t₀ r₀ values t r = 32 - r
+μ-loop s coefficients random watch values₀ t₀ r₀ values t r = 32 - r
 
 loop-holds : tie.Need-loop-holds Inv-loop μ-loop
 loop-holds c = (search going, c .before .before .before .before .pre .1 .1 .1)

@@ -12,13 +12,13 @@ use Rattle.cipher.proofs.substitution.sbox_layer.Statement.{statement}
 use Rattle.cipher.proofs.substitution.sbox_layer.Tie as tie
 
 abbrev Inv-loop : tie.InvT-loop
-Inv-loop s rec random watch values₀ block₀ n₀ k₀ values block n k =
+Inv-loop s coefficients random watch values₀ block₀ n₀ k₀ values block n k =
     (Going (elements 4 random) watch
-    (maskedNibble (recordSbox s rec)) 0 16 (sharing 8 s block₀) n₀ values₀ k (sharing 8 s block) n values)
+    (maskedNibble (recordSbox s coefficients)) 0 16 (sharing 8 s block₀) n₀ values₀ k (sharing 8 s block) n values)
     × KeptPast 8 s block₀ block
 
 abbrev μ-loop : tie.MeasureT-loop
-μ-loop s rec random watch values₀ block₀ n₀ k₀ values block n k = 16 - k
+μ-loop s coefficients random watch values₀ block₀ n₀ k₀ values block n k = 16 - k
 
 loop-holds : tie.Need-loop-holds Inv-loop μ-loop
 loop-holds c = (search going, kept-same)

@@ -2,7 +2,7 @@
 use mathlib.Core.Path.{refl}
 use Rattle.steps.specs.ShareBytes.{sharing}
 use Rattle.cipher.specs.Box.{recordSbox}
-use Rattle.cipher.proofs.Nibbles.{record-bytes, nibble-ready, closed-result, nibble-substituted}
+use Rattle.cipher.proofs.Nibbles.{nibble-ready, closed-result, nibble-substituted}
 use borrow.Author.Needs.{needs}
 use Rattle.cipher.proofs.substitution.sbox_nibble.Statement.{statement}
 use Rattle.cipher.proofs.substitution.sbox_nibble.Tie as tie
@@ -17,8 +17,8 @@ run-requires c κs =
     let a = start .args in (
       refl,
       (
-        (search needs, record-bytes (search needs)),
-        nibble-ready (recordSbox (a .s) (a .rec .now)) (a .k) (sharing (a .w) (a .s) (a .l .now)) _ (taken .column .ensures) (start .pre .1 .1),
+        (search needs, search needs),
+        nibble-ready (recordSbox (a .s) (a .coefficients .now)) (a .k) (sharing (a .w) (a .s) (a .l .now)) _ (taken .column .ensures) (start .pre .1 .1),
       ),
     )
 
@@ -29,7 +29,7 @@ replace-column-requires c κs =
     let start = taken .before .before .before .before .before .before .before in
     let a = start .args in (
       search needs,
-      closed-result (recordSbox (a .s) (a .rec .now)) (a .k) (a .w) (a .s) (a .l .now) (start .pre .1 .0) (search needs)
+      closed-result (recordSbox (a .s) (a .coefficients .now)) (a .k) (a .w) (a .s) (a .l .now) (start .pre .1 .0) (search needs)
           (taken .column .ensures) (boxed .run .ensures),
     )
 
@@ -39,7 +39,7 @@ returns c =
     let taken = boxed .before .before .before in
     let a = taken .before .before .before .before .before .before .before .args in
     let made = c .before .before .before .replace-column .ensures in (
-      nibble-substituted (recordSbox (a .s) (a .rec .now)) (a .k) (sharing (a .w) (a .s) (a .l .now)) _ _ _
+      nibble-substituted (recordSbox (a .s) (a .coefficients .now)) (a .k) (sharing (a .w) (a .s) (a .l .now)) _ _ _
           (taken .column .ensures) (boxed .run .ensures) (made .0),
       made .1,
     )

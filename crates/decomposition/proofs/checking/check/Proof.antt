@@ -5,7 +5,7 @@ use lib.ListN.{getD}
 use borrow.Author.Needs.{needs}
 use Rattle.refusal.specs.Outcome.{Outcome, done, andThen}
 use Rattle.decomposition.specs.Check.{checkAt, checkOutcome}
-use Rattle.decomposition.specs.Layout.{layout}
+use Rattle.decomposition.specs.Layout.{layout, recordSize}
 use Rattle.decomposition.specs.Record.{Accepted, readOutcome, readReport}
 use Rattle.decomposition.specs.declared.layouts.Layout.{Layout}
 use Rattle.decomposition.proofs.ReadOutcome.{read-accepted}
@@ -36,7 +36,7 @@ check-at-requires : tie.Need-check-at-requires
 check-at-requires c κs =
     let a = accepted (c .before .before) in
     let n = c .before .before .answer2 .given .0 .0 in
-    (rw (c .layout-of .ensures) (sizes n (a .width)), a .whole ∙ ap (λ (L : Layout). L .size) (sym (c .layout-of .ensures)))
+    (rw (c .layout-of .ensures) (sizes n (a .width)), a .whole ∙ ap (λ (L : Layout). recordSize L) (sym (c .layout-of .ensures)))
 
 returns : tie.Need-returns
 unfolding checkOutcome

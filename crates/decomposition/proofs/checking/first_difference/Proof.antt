@@ -5,22 +5,22 @@ use native.Mathlib.Nat.{zero-add}
 use native.Mathlib.Numerals.{add-one}
 use native.Mathlib.Omega.{arith}
 use lib.ListN.{drop, length}
-use Rattle.decomposition.specs.Check.{firstDifference, recordForm}
+use Rattle.decomposition.specs.Check.{firstDifference, formIn}
 use Rattle.decomposition.proofs.Differences.{difference-end, difference-here, difference-past, difference-start}
 use Rattle.decomposition.proofs.checking.first_difference.Statement.{statement}
 use Rattle.decomposition.proofs.checking.first_difference.Tie as tie
 
 abbrev Inv-loop : tie.InvT-loop
-Inv-loop L bytes table x₀ x =
-    (x ≤ length table) × (firstDifference (recordForm L bytes) table ≡ x + firstDifference (λ k. recordForm L bytes (x + k)) (drop x table))
+Inv-loop L coefficients table x₀ x =
+    (x ≤ length table) × (firstDifference (formIn L coefficients) table ≡ x + firstDifference (λ k. formIn L coefficients (x + k)) (drop x table))
 
 abbrev μ-loop : tie.MeasureT-loop
-μ-loop L bytes table x₀ x = length table - x
+μ-loop L coefficients table x₀ x = length table - x
 
 loop-holds : tie.Need-loop-holds Inv-loop μ-loop
 loop-holds c =
     let s = c .before .before in
-    (omega arith, sym (zero-add _ ∙ difference-start (recordForm (s .args .layout) (s .args .bytes .now)) (s .args .table .now)))
+    (omega arith, sym (zero-add _ ∙ difference-start (formIn (s .args .layout) (s .args .coefficients .now)) (s .args .table .now)))
 
 cast-form-at : tie.Need-cast-form-at Inv-loop μ-loop
 cast-form-at c =
@@ -46,7 +46,7 @@ loop-again c =
     let at-loop = c .before .before .before .before in
     let s = at-loop .before .before .before in
     let x = at-loop .loop .x in
-    let f = recordForm (s .args .layout) (s .args .bytes .now) in
+    let f = formIn (s .args .layout) (s .args .coefficients .now) in
     let l : x < length (s .args .table .now) = omega (arith, at-loop .loop .inv .0, c .before .before .before .if1 .left) in (
       omega arith,
       rw (add-one x)
@@ -61,7 +61,7 @@ loop-again c =
 returns : tie.Need-returns Inv-loop μ-loop
 returns c =
     let s = c .before .before .before .before in
-    let f = recordForm (s .args .layout) (s .args .bytes .now) in
+    let f = formIn (s .args .layout) (s .args .coefficients .now) in
     let x = c .before .loop .x in
     let e : x ≡ length (s .args .table .now) = c .if1 .taken in
     let none : firstDifference (λ k. f (x + k)) (drop x (s .args .table .now)) ≡ 0 =
@@ -73,7 +73,7 @@ returns-2 c =
     let at-loop = c .before .before .before .before in
     let s = at-loop .before .before .before in
     let x = at-loop .loop .x in
-    let f = recordForm (s .args .layout) (s .args .bytes .now) in
+    let f = formIn (s .args .layout) (s .args .coefficients .now) in
     let l : x < length (s .args .table .now) = omega (arith, at-loop .loop .inv .0, c .before .before .before .if1 .left) in
     omega (arith, at-loop .loop .inv .1, difference-here f (s .args .table .now) x l (λ e. c .if2 .taken (c .before .before .form-at .ensures ∙ e)))
 

@@ -6,6 +6,7 @@ use native.Mathlib.Omega.{arith}
 use lib.ListN.{length, length-drop, length-take, replicate, drop, take}
 use borrow.Author.Needs.{needs}
 use borrow.Rule.Slice.PartMut.{putMid, put-same, same-len-mid}
+use Rattle.decomposition.specs.Layout.{head}
 use Rattle.decomposition.specs.Record.{headed}
 use Rattle.decomposition.proofs.Sizes.{unknowns-few, width-few}
 use Rattle.decomposition.proofs.Solved.{solved-decomposition, put-tail, solved-none}
@@ -15,7 +16,7 @@ use Rattle.decomposition.proofs.fitting.find.Tie as tie
 
 -- where the function began
 abbrev start : tie.After-solve → tie.Start
-start c = c .before .before .before .before .before .before .before .before .before .before .before .before .before .before .before
+start c = c .before .before .before .before .before .before .before .before .before .before .before .before .before .before .before .before
 
 -- the work is all zero, and as long as it was
 cleared : (c : tie.After-zero) → c .zero .last .0 ≡ replicate (length (start (c .before .before .before .before .before .before) .args .work .now)) 0
@@ -29,24 +30,28 @@ cleared c =
 written-length : (c : tie.After-solve) → length (c .solve .last .1 .1 .1 .1 .0) ≡ start c .args .layout .unknowns
 written-length c =
     let s = start c in
-    c .solve .kept .1 .1 .1 .1 .0 ∙ simp (length-take, length-drop) (omega (arith, s .pre .1 .record-room, s .pre .0 .whole))
+    c .solve .kept .1 .1 .1 .1 .0 ∙ simp (length-take, length-drop) (omega (arith, s .pre .1 .record-room, s .pre .0 .coefficients))
 
 -- the record is as long as it was
-head-room : (c : tie.After-solve) → let s =
-    c .before .before .before .before .before .before .before .before .before .before .before .before .before .before .before in
-    length (putMid (s .args .layout .start) (length (s .args .out .now) - s .args .layout .start) (s .args .out .now) (c .solve .last .1 .1 .1 .1 .0))
+head-room : (c : tie.After-solve) → let s = start c in
+    length (putMid (head + s .args .layout .basis) (length (s .args .out .now) - (head + s .args .layout .basis)) (s .args .out .now) (c .solve .last .1 .1 .1 .1 .0))
     ≡ length (s .args .out .now)
 head-room c =
     let s = start c in
-    same-len-mid (s .args .layout .start) (length (s .args .out .now) - s .args .layout .start) (s .args .out .now) (c .solve .last .1 .1 .1 .1 .0)
+    same-len-mid (head + s .args .layout .basis) (length (s .args .out .now) - (head + s .args .layout .basis)) (s .args .out .now) (c .solve .last .1 .1 .1 .1 .0)
     (c .solve .kept .1 .1 .1 .1 .0)
+
+add-start : tie.Need-add-start
+add-start c =
+    let z = c .before .before .before .before .before .pre .0 in
+    omega (arith, z .basis, unknowns-few z)
 
 powers-requires : tie.Need-powers-requires
 powers-requires c κs = search needs
 
 equations-requires : tie.Need-equations-requires
 equations-requires c κs =
-    let s = c .before .before .before .before .before .before .before .before .before in
+    let s = c .before .before .before .before .before .before .before .before .before .before in
     let z = s .pre .1 in
     let w = c .before .before .before .powers in
     (s .pre .0, record { inputs = z .inputs; whole = z .whole; room = w .kept .1 .0 ∙ z .room; powers = w .ensures })
@@ -63,7 +68,7 @@ part-solve-end c = search needs
 solve-requires : tie.Need-solve-requires
 solve-requires c κs =
     let a = c .before .before .before .before in
-    let s = a .before .before .before .before .before .before .before .before .before .before in
+    let s = a .before .before .before .before .before .before .before .before .before .before .before in
     let z = s .pre .1 in
     let y = s .pre .0 in
     let l = a .equations .kept .1 .1 .1 .0 ∙ a .before .before .before .before .powers .kept .1 .0 ∙ z .room in (
@@ -74,7 +79,7 @@ solve-requires c κs =
           elements = rows-elements y (z .entries) (z .elements) (a .equations .ensures);
         },
         omega (arith, unknowns-few y),
-        simp (length-take, length-drop) (omega (arith, z .record-room, y .whole)),
+        simp (length-take, length-drop) (omega (arith, z .record-room, y .coefficients)),
       ),
     )
 
@@ -84,7 +89,7 @@ write-head-requires c κs =
     let s = start v in
     let z = s .pre .1 in
     let y = s .pre .0 in
-    (width-few y, omega (arith, z .whole, z .record-room, y .solution, y .whole, head-room v))
+    (width-few y, omega (arith, z .whole, z .record-room, y .coefficients, head-room v))
 
 returns : tie.Need-returns
 returns c =
@@ -97,16 +102,16 @@ returns c =
     let L = s .args .layout in
     let q = s .args .basis .now in
     let l = s .args .out .now in
-    let k = length l - L .start in
+    let k = length l - (head + L .basis) in
     let p : List ℕ = v .solve .last .1 .1 .1 .1 .0 in
-    let e : 6 + length q ≡ L .start = omega (arith, z .whole, s .pre .0 .solution) in
-    let tail : drop (6 + length q) (putMid (L .start) k l p) ≡ p =
-    ap (λ (h : ℕ). drop h (putMid (L .start) k l p)) e ∙ put-tail (L .start) k l p (omega (arith, z .record-room, s .pre .0 .whole)) in (
+    let e : head + length q ≡ head + L .basis = omega (arith, z .whole) in
+    let tail : drop (head + length q) (putMid (head + L .basis) k l p) ≡ p =
+    ap (λ (h : ℕ). drop h (putMid (head + L .basis) k l p)) e ∙ put-tail (head + L .basis) k l p (omega (arith, z .record-room, s .pre .0 .coefficients)) in (
       cleared zr,
       record {
         p = p;
         decomposition =
-            solved-decomposition (s .pre .0) (s .args .table .now) q (z .elements) (a .equations .last .1 .1 .1 .0) (take k (drop (L .start) l)) p
+            solved-decomposition (s .pre .0) (s .args .table .now) q (z .elements) (a .equations .last .1 .1 .1 .0) (take k (drop (head + L .basis) l)) p
             (a .equations .ensures) {b = v .solve .result} (v .solve .ensures .1) (w .before .before .if1 .taken) (written-length v);
         whole = w .write-head .ensures ∙ ap (headed (L .width) q) tail;
         nothing-more = refl;
@@ -121,17 +126,17 @@ returns-2 c =
     let s = start v in
     let L = s .args .layout in
     let l = s .args .out .now in
-    let k = length l - L .start in
+    let k = length l - (head + L .basis) in
     let p : List ℕ = v .solve .last .1 .1 .1 .1 .0 in
     let n = solved-none (s .pre .0) (s .args .table .now) (s .args .basis .now) (s .pre .1 .elements) (a .equations .last .1 .1 .1 .0)
-    (take k (drop (L .start) l)) p
+    (take k (drop (head + L .basis) l)) p
     (a .equations .ensures) {b = v .solve .result} (v .solve .ensures .1) (c .before .if1 .left) in (
       cleared zr,
       rw (c .refuse .ensures) record {
         number-is = refl;
         place-is = refl;
         none = n .0;
-        unchanged = ap (putMid (L .start) k l) (n .1) ∙ put-same (L .start) k l;
+        unchanged = ap (putMid (head + L .basis) k l) (n .1) ∙ put-same (head + L .basis) k l;
       },
     )
 
@@ -139,6 +144,7 @@ pub find-spec : {M : Type 1} → statement M
 find-spec =
     tie.close
     (tie.spec
+    add-start
     powers-requires
     equations-requires
     sub-solve

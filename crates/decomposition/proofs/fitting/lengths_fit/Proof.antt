@@ -1,6 +1,8 @@
 -- `fitting::lengths_fit` meets its contract: each test is that of the definition.
+use native.Mathlib.Omega.{arith}
 use borrow.Author.Tests.{eq-eqb, ne-eqb}
 use Rattle.decomposition.specs.Fit.{fitLengths}
+use Rattle.decomposition.proofs.Sizes.{coefficients-few}
 use Rattle.decomposition.proofs.fitting.lengths_fit.Statement.{statement}
 use Rattle.decomposition.proofs.fitting.lengths_fit.Tie as tie
 
@@ -25,5 +27,8 @@ returns-4 c =
       eq-eqb _ _ (c .before .if3 .left),
     )
 
+add-result : tie.Need-add-result
+add-result c = omega (arith, coefficients-few (c .before .before .before .before .before .before .before .pre))
+
 pub lengths-fit-spec : {M : Type 1} → statement M
-lengths-fit-spec = tie.close (tie.spec returns returns-2 returns-3 returns-4)
+lengths-fit-spec = tie.close (tie.spec returns returns-2 returns-3 add-result returns-4)

@@ -40,12 +40,12 @@ products-requires c κs = search needs
 mul-evaluate : tie.Need-mul-evaluate
 mul-evaluate c =
     let z = c .before .before .before .before .before .before .before .pre .0 in
-    omega (arith, last-room c, unknowns-few z, z .basis, z .solution)
+    omega (arith, last-room c, unknowns-few z, z .basis)
 
 add-evaluate : tie.Need-add-evaluate
 add-evaluate c =
     let z = c .before .before .before .before .before .before .before .pre .0 in
-    omega (arith, last-room c, unknowns-few z, z .basis, z .solution)
+    omega (arith, last-room c, unknowns-few z, z .basis)
 
 slice-aggregate-evaluate : tie.Need-slice-aggregate-evaluate
 slice-aggregate-evaluate c = search needs
@@ -56,7 +56,7 @@ evaluate-requires c κs =
     let z = s .pre .0 in (
       z .width,
       (
-        omega (arith, last-room (c .before), z .whole, s .pre .1),
+        omega (arith, last-room (c .before), z .coefficients, s .pre .1),
         omega
             (arith, c .before .before .before .before .power-row .kept .1 .1 .0, z .few-exponents),
       ),
@@ -72,7 +72,7 @@ returns c =
     let a : Agree (L .exponents) (from powers 0) (monomial (L .width) (s .args .x)) = record { at = w .ensures .new } in
     ⊕-is (c .before .before .products .result) (c .evaluate .result)
     ∙ ap₂ _⊕_ (c .before .before .products .ensures (s .args .x) a)
-    (c .evaluate .ensures ∙ solution-value (s .pre .0) (s .args .bytes .now) powers (s .args .x) a (L .terms - 1))
+    (c .evaluate .ensures ∙ solution-value (s .pre .0) (s .args .coefficients .now) powers (s .args .x) a (L .terms - 1))
 
 pub form-at-spec : {M : Type 1} → statement M
 form-at-spec =

@@ -13,10 +13,10 @@ use Rattle.decomposition.proofs.polynomial.products.Statement.{statemen
 use Rattle.decomposition.proofs.polynomial.products.Tie as tie
 
 abbrev Inv-loop : tie.InvT-loop
-Inv-loop bytes powers width count last start sum₀ i₀ sum i = (i ≤ last) × (sum ≡ sumOf i (productAt width count start bytes powers))
+Inv-loop coefficients powers width count last start sum₀ i₀ sum i = (i ≤ last) × (sum ≡ sumOf i (productAt width count start coefficients powers))
 
 abbrev μ-loop : tie.MeasureT-loop
-μ-loop bytes powers width count last start sum₀ i₀ sum i = last - i
+μ-loop coefficients powers width count last start sum₀ i₀ sum i = last - i
 
 -- polynomial i lies within the basis
 room : (c : tie.In-loop Inv-loop μ-loop) → let L = c .before .before .before .before .before .args .layout in
@@ -36,34 +36,29 @@ loop-holds c = (omega arith, refl)
 mul-evaluate : tie.Need-mul-evaluate Inv-loop μ-loop
 mul-evaluate c =
     let z = c .before .before .before .before .before .pre .0 in
-    omega (arith, room c, z .basis, z .solution, unknowns-few z)
+    omega (arith, room c, z .basis, unknowns-few z)
 
 add-evaluate : tie.Need-add-evaluate Inv-loop μ-loop
 add-evaluate c =
     let z = c .before .before .before .before .before .pre .0 in
-    omega (arith, room c, z .basis, z .solution, unknowns-few z)
+    omega (arith, room c, z .basis, unknowns-few z)
 
 evaluate-requires : tie.Need-evaluate-requires Inv-loop μ-loop
 evaluate-requires c κs =
     let s = c .before .before .before .before .before in
     let z = s .pre .0 in
-    (z .width, (omega (arith, room c, z .basis, z .whole, s .pre .1 .0), omega (arith, s .pre .1 .1)))
+    (z .width, (omega (arith, room c, z .basis, z .coefficients, s .pre .1 .0), omega (arith, s .pre .1 .1)))
 
 mul-evaluate-2 : tie.Need-mul-evaluate-2 Inv-loop μ-loop
 mul-evaluate-2 c =
     let z = c .before .before .before .before .before .before .pre .0 in
-    omega (arith, room (c .before), z .basis, z .solution, unknowns-few z)
-
-add-evaluate-2 : tie.Need-add-evaluate-2 Inv-loop μ-loop
-add-evaluate-2 c =
-    let z = c .before .before .before .before .before .before .pre .0 in
-    omega (arith, room (c .before), z .basis, z .solution, unknowns-few z)
+    omega (arith, room (c .before), z .basis, unknowns-few z)
 
 evaluate-requires-2 : tie.Need-evaluate-requires-2 Inv-loop μ-loop
 evaluate-requires-2 c κs =
     let s = c .before .before .before .before .before .before in
     let z = s .pre .0 in
-    (z .width, (omega (arith, room (c .before), z .basis, z .solution, z .whole, s .pre .1 .0), omega (arith, s .pre .1 .1)))
+    (z .width, (omega (arith, room (c .before), z .basis, z .coefficients, s .pre .1 .0), omega (arith, s .pre .1 .1)))
 
 mul-requires : tie.Need-mul-requires Inv-loop μ-loop
 mul-requires c κs = c .before .before .before .before .before .before .before .pre .0 .width
@@ -92,9 +87,9 @@ returns c =
     let s = c .before .before .before .before .before in
     let e : c .before .loop .i ≡ s .args .layout .terms - 1 = omega arith in
     c .before .loop .inv .1
-    ∙ ap (λ (k : ℕ). sumOf k (productAt (s .args .layout .width) (s .args .layout .exponents) (s .args .layout .start) (s .args .bytes .now)
+    ∙ ap (λ (k : ℕ). sumOf k (productAt (s .args .layout .width) (s .args .layout .exponents) (s .args .layout .basis) (s .args .coefficients .now)
     (s .args .powers .now))) e
-    ∙ products-record (s .pre .0) (s .args .bytes .now) (s .args .powers .now) x a
+    ∙ products-record (s .pre .0) (s .args .coefficients .now) (s .args .powers .now) x a
 
 pub products-spec : {M : Type 1} → statement M
 products-spec =
@@ -108,7 +103,6 @@ products-spec =
     add-evaluate
     evaluate-requires
     mul-evaluate-2
-    add-evaluate-2
     evaluate-requires-2
     mul-requires
     add-i

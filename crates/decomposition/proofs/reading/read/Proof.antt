@@ -6,7 +6,7 @@ use lib.ListN.{length, getD}
 use borrow.Author.Needs.{needs}
 use borrow.Author.Tests.{le-leb, lt-leb}
 use Rattle.refusal.proofs.Outcome.{test-fails, test-passes}
-use Rattle.decomposition.specs.Layout.{known, Known}
+use Rattle.decomposition.specs.Layout.{head, known, Known}
 use Rattle.decomposition.specs.Record.{readOutcome, marked, readAt}
 use Rattle.decomposition.specs.declared.layouts.Layout.{Layout}
 use Rattle.decomposition.proofs.Sizes.{sizes}
@@ -33,7 +33,7 @@ unfolding readOutcome
 returns-2 c =
     let r = c .before .before .before .before .before .args .bytes .now in
     let m : marked r ≡ false = test-fails (c .before .before .marked .ensures) (c .before .if2 .taken) in
-    rw (le-leb 6 (length r) (c .before .before .before .if1 .left), m) (c .refuse2 .ensures)
+    rw (le-leb head (length r) (c .before .before .before .if1 .left), m) (c .refuse2 .ensures)
 
 shared-slice-read-width : tie.Need-shared-slice-read-width
 shared-slice-read-width c = search needs
@@ -46,7 +46,7 @@ unfolding readOutcome
 returns-3 c =
     let r = c .before .before .before .before .before .before .before .before .args .bytes .now in
     let k : known (getD r 5 0) ≡ false = test-fails (c .before .before .known .ensures) (c .before .if3 .taken) in
-    rw (le-leb 6 (length r) (c .before .before .before .before .before .before .if1 .left), right (c .before .before .before .before), k) (c .refuse3 .ensures)
+    rw (le-leb head (length r) (c .before .before .before .before .before .before .if1 .left), right (c .before .before .before .before), k) (c .refuse3 .ensures)
 
 layout-of-requires : tie.Need-layout-of-requires
 layout-of-requires c κs = width-right c
@@ -68,7 +68,7 @@ returns-4 c =
     c .read-at .ensures
     ∙ ap (λ (L : Layout). readAt L r) (c .before .layout-of .ensures)
     ∙ sym (rw (
-      le-leb 6 (length r) (e .before .before .before .before .before .if1 .left),
+      le-leb head (length r) (e .before .before .before .before .before .if1 .left),
       right (e .before .before .before),
       width-right e,
     ) refl)

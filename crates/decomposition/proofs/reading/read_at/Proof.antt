@@ -1,24 +1,30 @@
--- `decomposition::read_at` meets its contract. What is searched is all that follows the first six bytes.
+-- `decomposition::read_at` meets its contract. What is searched is the coefficients.
 use mathlib.Core.List.{[], _∷_}
 use mathlib.Core.Path.{_∙_, ap, sym, _≡_}
 use Prim.Native.Nat.{_+_, ℕ}
 use native.Mathlib.Omega.{arith}
-use lib.ListN.{drop, length, length-drop}
+use lib.ListN.{length, length-drop}
 use borrow.Author.Needs.{needs}
 use borrow.Author.Tests.{eq-eqb, ne-eqb}
 use Rattle.refusal.specs.Large.{firstLarge}
 use Rattle.refusal.specs.Outcome.{done, refused}
 use Rattle.refusal.proofs.Large.{below-fails, below-passes}
+use Rattle.decomposition.specs.Layout.{head, recordSize}
+use Rattle.decomposition.specs.Record.{coefficientsOf}
+use Rattle.decomposition.proofs.Sizes.{coefficients-few}
 use Rattle.decomposition.proofs.Tests.{whole-part}
 use Rattle.decomposition.proofs.reading.read_at.Statement.{statement}
 use Rattle.decomposition.proofs.reading.read_at.Tie as tie
 
 -- the place that the search finds
 found : (c : tie.After-first-large) → let s = c .before .before .before .before .before .before in
-    c .first-large .result ≡ firstLarge (s .args .layout .inputs) (drop 6 (s .args .bytes .now))
+    c .first-large .result ≡ firstLarge (s .args .layout .inputs) (coefficientsOf (s .args .bytes .now))
 found c =
     let s = c .before .before .before .before .before .before in
-    c .first-large .ensures ∙ ap (firstLarge (s .args .layout .inputs)) (whole-part 6 (s .args .bytes .now))
+    c .first-large .ensures ∙ ap (firstLarge (s .args .layout .inputs)) (whole-part head (s .args .bytes .now))
+
+add-if1 : tie.Need-add-if1
+add-if1 c = omega (arith, coefficients-few (c .before .before .pre .0))
 
 returns : tie.Need-returns
 returns c = c .refuse .ensures ∙ simp (ne-eqb _ _ (c .before .if1 .taken))
@@ -47,22 +53,23 @@ returns-2 c =
     let r = s .args .bytes .now in
     let L = s .args .layout in
     let e = found (c .before .before) in
-    rw (eq-eqb (length r) (L .size) (c .before .before .before .before .before .if1 .left))
-    (c .refuse2 .ensures ∙ ap (λ (k : ℕ). refused 3 (6 + k)) e
-    ∙ sym (below-fails (L .inputs) 6 (drop 6 r) (done (L .width ∷ [])) (omega (arith, e, c .before .if2 .taken, length-drop 6 r))))
+    rw (eq-eqb (length r) (recordSize L) (c .before .before .before .before .before .if1 .left))
+    (c .refuse2 .ensures ∙ ap (λ (k : ℕ). refused 3 (head + k)) e
+    ∙ sym (below-fails (L .inputs) head (coefficientsOf r) (done (L .width ∷ [])) (omega (arith, e, c .before .if2 .taken, length-drop head r))))
 
 returns-3 : tie.Need-returns-3
 returns-3 c =
     let s = c .before .before .before .before .before .before .before in
     let r = s .args .bytes .now in
     let L = s .args .layout in
-    rw (eq-eqb (length r) (L .size) (c .before .before .before .before .if1 .left))
-    (sym (below-passes (L .inputs) 6 (drop 6 r) (done (L .width ∷ [])) (omega (arith, found (c .before), c .if2 .left, length-drop 6 r))))
+    rw (eq-eqb (length r) (recordSize L) (c .before .before .before .before .if1 .left))
+    (sym (below-passes (L .inputs) head (coefficientsOf r) (done (L .width ∷ [])) (omega (arith, found (c .before), c .if2 .left, length-drop head r))))
 
 pub read-at-spec : {M : Type 1} → statement M
 read-at-spec =
     tie.close
     (tie.spec
+    add-if1
     (λ c κs. search needs)
     returns
     cast-first-large

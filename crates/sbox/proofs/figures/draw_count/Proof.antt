@@ -1,8 +1,9 @@
 -- `draw_count` meets its contract.
+use mathlib.Core.Path.{sym}
 use native.Mathlib.Omega.{arith}
 use borrow.Author.Needs.{needs}
 use Rattle.decomposition.proofs.Sizes.{known-6}
-use Rattle.sbox.specs.Figures.{sboxDraws}
+use Rattle.sbox.proofs.Counts.{figures-4, figures-6}
 use Rattle.sbox.proofs.figures.draw_count.Statement.{statement}
 use Rattle.sbox.proofs.figures.draw_count.Tie as tie
 use Rattle.product.proofs.Counts.{few-pairs}
@@ -23,12 +24,10 @@ mul-result-3 : tie.Need-mul-result-3
 mul-result-3 c = omega (arith, few-pairs (c .before .pre .1 .1))
 
 returns : tie.Need-returns
-unfolding sboxDraws
-returns c = rw (c .if1 .taken)
+returns c = rw (c .if1 .taken) (sym (figures-4 (c .before .args .s) .1))
 
 returns-2 : tie.Need-returns-2
-unfolding sboxDraws
-returns-2 c = rw (known-6 _ (c .before .pre .0) (c .if1 .left))
+returns-2 c = rw (known-6 _ (c .before .pre .0) (c .if1 .left)) (sym (figures-6 (c .before .args .s) .1))
 
 pub draw-count-spec : {M : Type 1} → statement M
 draw-count-spec =

@@ -1,8 +1,9 @@
 -- `step_count` meets its contract.
+use mathlib.Core.Path.{sym}
 use native.Mathlib.Omega.{arith}
 use borrow.Author.Needs.{needs}
 use Rattle.decomposition.proofs.Sizes.{known-6}
-use Rattle.sbox.specs.Figures.{sboxSteps}
+use Rattle.sbox.proofs.Counts.{figures-4, figures-6}
 use Rattle.sbox.proofs.figures.step_count.Statement.{statement}
 use Rattle.sbox.proofs.figures.step_count.Tie as tie
 use Rattle.product.proofs.Counts.{few-pairs}
@@ -38,12 +39,10 @@ add-result-2 : tie.Need-add-result-2
 add-result-2 c = omega (arith, few-pairs (c .before .pre .1 .1))
 
 returns : tie.Need-returns
-unfolding sboxSteps
-returns c = rw (c .if1 .taken)
+returns c = rw (c .if1 .taken) (sym (figures-4 (c .before .args .s) .2))
 
 returns-2 : tie.Need-returns-2
-unfolding sboxSteps
-returns-2 c = rw (known-6 _ (c .before .pre .0) (c .if1 .left))
+returns-2 c = rw (known-6 _ (c .before .pre .0) (c .if1 .left)) (sym (figures-6 (c .before .args .s) .2))
 
 pub step-count-spec : {M : Type 1} → statement M
 step-count-spec =

@@ -11,21 +11,18 @@ use Rattle.sbox.proofs.polynomial_rows.polynomial.Statement.{statement}
 use Rattle.sbox.proofs.polynomial_rows.polynomial.Tie as tie
 
 abbrev Inv-loop : tie.InvT-loop
-Inv-loop width k s rec j watch values₀ t₀ n p z next₀ i₀ values t next i =
-    Going [] watch (spec.polynomialShare width k rec p z) 0 s t₀ (atStep n) values₀
+Inv-loop width k s coefficients j watch values₀ t₀ n p z next₀ i₀ values t next i =
+    Going [] watch (spec.polynomialShare width k coefficients p z) 0 s t₀ (atStep n) values₀
     i t (atStep next) values
 
 abbrev μ-loop : tie.MeasureT-loop
-μ-loop width k s rec j watch values₀ t₀ n p z next₀ i₀ values t next i = s - i
+μ-loop width k s coefficients j watch values₀ t₀ n p z next₀ i₀ values t next i = s - i
 
 add-p : tie.Need-add-p Inv-loop μ-loop
 add-p c = search needs
 
 mul-p : tie.Need-mul-p Inv-loop μ-loop
 mul-p c = search needs
-
-add-p-2 : tie.Need-add-p-2 Inv-loop μ-loop
-add-p-2 c = search needs
 
 add-z : tie.Need-add-z Inv-loop μ-loop
 add-z c = search needs
@@ -67,7 +64,6 @@ polynomial-spec =
     μ-loop
     add-p
     mul-p
-    add-p-2
     add-z
     loop-holds
     polynomial-share-requires

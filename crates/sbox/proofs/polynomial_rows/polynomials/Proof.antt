@@ -12,12 +12,12 @@ use Rattle.sbox.proofs.polynomial_rows.polynomials.Statement.{statement
 use Rattle.sbox.proofs.polynomial_rows.polynomials.Tie as tie
 
 abbrev Inv-loop : tie.InvT-loop
-Inv-loop width k s rec count watch values₀ t₀ n next₀ j₀ values t next j =
-    Going [] watch (spec.polynomialRow width k s rec) 0 count t₀ (atStep n) values₀
+Inv-loop width k s coefficients count watch values₀ t₀ n next₀ j₀ values t next j =
+    Going [] watch (spec.polynomialRow width k s coefficients) 0 count t₀ (atStep n) values₀
     j t (atStep next) values
 
 abbrev μ-loop : tie.MeasureT-loop
-μ-loop width k s rec count watch values₀ t₀ n next₀ j₀ values t next j = count - j
+μ-loop width k s coefficients count watch values₀ t₀ n next₀ j₀ values t next j = count - j
 
 loop-holds : tie.Need-loop-holds Inv-loop μ-loop
 loop-holds c = search going

@@ -34,7 +34,7 @@ record-all-requires : tie.Need-record-all-requires
 record-all-requires c κs = let room = term-room _ _ _ _ _ _ _ _ (c .before .before .before .before .before .before .before .before .before .pre .1 .1) in search needs
 
 returns : tie.Need-returns
-unfolding table.cell
+unfolding table.tableCell
 returns c =
     record { runs = term-runs _ _ _ _ _ _ _ _ _ _ _ _ _ _ (search needs) (search needs) (search needs) }
 

@@ -11,12 +11,12 @@ use Rattle.sbox.proofs.polynomial_rows.terms.Statement.{statement}
 use Rattle.sbox.proofs.polynomial_rows.terms.Tie as tie
 
 abbrev Inv-loop : tie.InvT-loop
-Inv-loop width k rec p i watch values₀ t u₀ r₀ values u r =
-    Going [] watch (spec.termAt width rec p i t) 0 k (u₀ .value) (atStep (u₀ .step)) values₀
+Inv-loop width k coefficients p i watch values₀ t u₀ r₀ values u r =
+    Going [] watch (spec.termAt width coefficients p i t) 0 k (u₀ .value) (atStep (u₀ .step)) values₀
     r (u .value) (atStep (u .step)) values
 
 abbrev μ-loop : tie.MeasureT-loop
-μ-loop width k rec p i watch values₀ t u₀ r₀ values u r = k - r
+μ-loop width k coefficients p i watch values₀ t u₀ r₀ values u r = k - r
 
 loop-holds : tie.Need-loop-holds Inv-loop μ-loop
 loop-holds c = search going

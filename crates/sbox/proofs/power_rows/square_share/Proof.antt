@@ -34,7 +34,7 @@ element-write-t : tie.Need-element-write-t
 element-write-t c = search needs
 
 returns : tie.Need-returns
-unfolding table.cell table.setCell
+unfolding table.tableCell table.setCell
 returns c =
     record { runs = square-runs _ _ _ _ _ _ _ _ _ _ _ (search needs) (search needs) (search needs) }
 

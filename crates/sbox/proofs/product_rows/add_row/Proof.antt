@@ -18,7 +18,7 @@ record-requires : tie.Need-record-requires
 record-requires c κs = let room = add-room _ _ _ _ _ (c .before .before .before .before .before .pre .1) in search needs
 
 returns : tie.Need-returns
-unfolding table.cell
+unfolding table.tableCell
 returns c =
     record { runs = add-runs _ _ _ _ _ _ _ _ _ _ (search needs) (search needs) }
 

@@ -18,18 +18,18 @@ element-copy-out-first : tie.Need-element-copy-out-first
 element-copy-out-first c = search needs
 
 add-rows-requires : tie.Need-add-rows-requires
-unfolding spec.totalShare table.cell
+unfolding spec.totalShare table.tableCell
 add-rows-requires c κs = (omega arith, ready-first _ _ (c .before .before .before .before .pre .1))
 
 sub-add-row : tie.Need-sub-add-row
 sub-add-row c = search needs
 
 add-row-requires : tie.Need-add-row-requires
-unfolding spec.totalShare table.cell
+unfolding spec.totalShare table.tableCell
 add-row-requires c κs = (omega arith, ready-next _ (c .before .before .before .before .before .before .before .before .pre .1) (c .before .before .before .add-rows .ensures) (search needs))
 
 returns : tie.Need-returns
-unfolding spec.totalShare table.cell
+unfolding spec.totalShare table.tableCell
 returns c =
     record { runs = search then-runs }
 

@@ -27,28 +27,29 @@ enum { BUILD_COUNT = sizeof builds / sizeof builds[0] };
 // The arguments of the operation that is measured. The sharings are taken in turns: a call reads nothing that was written just before it.
 enum { TURNS = 16 };
 static struct {
-    unsigned width;
+    unsigned width, bits;
     size_t s;
     struct sizes z;
     size_t turn;
     uint8_t a[TURNS][SHARES];
-    uint8_t record[RECORD_6], table[ELEMENTS_6], work[WORK_6];
+    uint8_t record[RECORD_6], table[ELEMENTS_6], work[WORK_6_4];
     uint8_t key[16 * SHARES], block[16 * SHARES], random[400 * SHARES * (SHARES - 1)];
     uint8_t out[16 * SHARES];
 } in;
 
-static void prepare(unsigned width, size_t s)
+static void prepare(unsigned width, unsigned bits, size_t s)
 {
     memset(&in, 0, sizeof in);
     number = FIRST_NUMBER;
     in.width = width;
+    in.bits = bits;
     in.s = s;
-    in.z = sizes_of(width);
+    in.z = sizes_of(width, bits);
     if (width == 4) {
         memcpy(in.table, present_sbox, ELEMENTS_4);
-        builds[0]->fit(4, in.table, ELEMENTS_4, house_basis, in.z.basis, in.work, in.z.work, in.record, in.z.record);
-    } else
-        fill_record_6(builds[0], in.record, in.table);
+        builds[0]->fit(4, 4, in.table, ELEMENTS_4, house_basis, in.z.basis, in.work, in.z.work, in.record, in.z.record);
+    } else if (width == 6)
+        fill_record_6(builds[0], bits, in.record, in.table);
     for (size_t i = 0; i < TURNS; i++)
         fill_below(1u << width, in.a[i], s);
     fill_below(256, in.key, 16 * s);
@@ -100,9 +101,9 @@ static void run_fit(const struct plain *by)
 {
     uint64_t answer[4];
     if (by == NULL)
-        ll_fit(in.width, in.table, in.z.elements, in.record + 6, in.z.basis, in.work, in.z.work, in.out, in.z.record, answer);
+        ll_fit(in.width, in.bits, in.table, in.z.elements, in.record + HEAD, in.z.basis, in.work, in.z.work, in.out, in.z.record, answer);
     else
-        by->fit(in.width, in.table, in.z.elements, in.record + 6, in.z.basis, in.work, in.z.work, in.out, in.z.record);
+        by->fit(in.width, in.bits, in.table, in.z.elements, in.record + HEAD, in.z.basis, in.work, in.z.work, in.out, in.z.record);
 }
 
 static void run_house_fit(const struct plain *by)
@@ -111,7 +112,7 @@ static void run_house_fit(const struct plain *by)
     if (by == NULL)
         ll_house_fit(in.table, in.z.elements, in.work, in.z.work, in.out, in.z.record, answer);
     else
-        by->fit(4, in.table, in.z.elements, house_basis, in.z.basis, in.work, in.z.work, in.out, in.z.record);
+        by->fit(4, 4, in.table, in.z.elements, house_basis, in.z.basis, in.work, in.z.work, in.out, in.z.record);
 }
 
 static void run_present(const struct plain *by)
@@ -127,37 +128,43 @@ static void run_aes(const struct plain *by)
 struct operation {
     const char *name;
     void (*run)(const struct plain *);
-    unsigned width;
+    unsigned width, bits;
     size_t s;
     // the ratio that the library is to stay under; 0 where there is only plain C
     double target;
 };
 
 static const struct operation operations[] = {
-    {"masked S-box", run_sbox, 4, 1, 1.2},
-    {"masked S-box", run_sbox, 4, 3, 1.2},
-    {"masked S-box", run_sbox, 4, 5, 1.2},
-    {"masked S-box", run_sbox, 4, 7, 1.2},
-    {"masked S-box", run_sbox, 4, 9, 1.2},
-    {"masked S-box", run_sbox, 6, 1, 1.2},
-    {"masked S-box", run_sbox, 6, 3, 1.2},
-    {"masked S-box", run_sbox, 6, 5, 1.2},
-    {"masked S-box", run_sbox, 6, 7, 1.2},
-    {"masked S-box", run_sbox, 6, 9, 1.2},
-    {"Fit", run_fit, 4, 1, 1.5},
-    {"Fit", run_fit, 6, 1, 1.5},
-    {"House fit", run_house_fit, 4, 1, 1.5},
-    {"masked PRESENT-80", run_block, 4, 1, 1.2},
-    {"masked PRESENT-80", run_block, 4, 3, 1.2},
-    {"masked PRESENT-80", run_block, 4, 5, 1.2},
-    {"masked PRESENT-80", run_block, 4, 9, 1.2},
-    {"masked AES-128", run_aes_block, 8, 1, 1.2},
-    {"masked AES-128", run_aes_block, 8, 3, 1.2},
-    {"masked AES-128", run_aes_block, 8, 5, 1.2},
-    {"masked AES-128", run_aes_block, 8, 9, 1.2},
+    {"masked S-box", run_sbox, 4, 4, 1, 1.2},
+    {"masked S-box", run_sbox, 4, 4, 3, 1.2},
+    {"masked S-box", run_sbox, 4, 4, 5, 1.2},
+    {"masked S-box", run_sbox, 4, 4, 7, 1.2},
+    {"masked S-box", run_sbox, 4, 4, 9, 1.2},
+    {"masked S-box", run_sbox, 6, 6, 1, 1.2},
+    {"masked S-box", run_sbox, 6, 6, 3, 1.2},
+    {"masked S-box", run_sbox, 6, 6, 5, 1.2},
+    {"masked S-box", run_sbox, 6, 6, 7, 1.2},
+    {"masked S-box", run_sbox, 6, 6, 9, 1.2},
+    {"masked S-box", run_sbox, 6, 4, 1, 1.2},
+    {"masked S-box", run_sbox, 6, 4, 3, 1.2},
+    {"masked S-box", run_sbox, 6, 4, 5, 1.2},
+    {"masked S-box", run_sbox, 6, 4, 7, 1.2},
+    {"masked S-box", run_sbox, 6, 4, 9, 1.2},
+    {"Fit", run_fit, 4, 4, 1, 1.5},
+    {"Fit", run_fit, 6, 6, 1, 1.5},
+    {"Fit", run_fit, 6, 4, 1, 1.5},
+    {"House fit", run_house_fit, 4, 4, 1, 1.5},
+    {"masked PRESENT-80", run_block, 4, 4, 1, 1.2},
+    {"masked PRESENT-80", run_block, 4, 4, 3, 1.2},
+    {"masked PRESENT-80", run_block, 4, 4, 5, 1.2},
+    {"masked PRESENT-80", run_block, 4, 4, 9, 1.2},
+    {"masked AES-128", run_aes_block, 8, 8, 1, 1.2},
+    {"masked AES-128", run_aes_block, 8, 8, 3, 1.2},
+    {"masked AES-128", run_aes_block, 8, 8, 5, 1.2},
+    {"masked AES-128", run_aes_block, 8, 8, 9, 1.2},
     // without masking, in plain C only
-    {"PRESENT-80", run_present, 4, 1, 0},
-    {"AES-128", run_aes, 8, 1, 0},
+    {"PRESENT-80", run_present, 4, 4, 1, 0},
+    {"AES-128", run_aes, 8, 8, 1, 0},
 };
 enum { OPERATION_COUNT = sizeof operations / sizeof operations[0] };
 
@@ -171,7 +178,7 @@ static void fail(const char *what, const char *of)
 static void compare(const struct operation *o)
 {
     uint8_t expected[sizeof in.out];
-    prepare(o->width, o->s);
+    prepare(o->width, o->bits, o->s);
     for (size_t turn = 0; turn < TURNS && o->target > 0; turn++) {
         o->run(NULL);
         memcpy(expected, in.out, sizeof expected);
@@ -214,7 +221,7 @@ static void keep_best(double *best, double t)
 // Some batches of half a millisecond, the library and the builds in turns.
 static void measure(const struct operation *o, struct times *best)
 {
-    prepare(o->width, o->s);
+    prepare(o->width, o->bits, o->s);
     if (best->calls == 0)
         for (best->calls = 1; batch(o, builds[0], best->calls) < 5e-4;)
             best->calls *= 2;
@@ -236,7 +243,7 @@ static void print_time(double t)
 
 static void print_line(const struct operation *o, const struct times *t, double present, double aes)
 {
-    printf("%-18s %5u %6zu", o->name, o->width, o->s);
+    printf("%-18s %5u %4u %6zu", o->name, o->width, o->bits, o->s);
     if (o->target > 0)
         print_time(t->library);
     else
@@ -263,7 +270,7 @@ static void print_table(void)
     for (unsigned pass = 0; pass < 6; pass++)
         for (size_t i = 0; i < OPERATION_COUNT; i++)
             measure(operations + i, best + i);
-    printf("%-18s %5s %6s %12s", "operation", "width", "shares", "library");
+    printf("%-18s %5s %4s %6s %12s", "operation", "width", "bits", "shares", "library");
     for (size_t k = 0; k < BUILD_COUNT; k++)
         printf(" %12s %6s", builds[k]->name, "ratio");
     printf(" %8s\n", "penalty");
@@ -284,12 +291,12 @@ static void count_instructions(void)
             const struct plain *by = k == 0 ? NULL : builds[k - 1];
             if (by == NULL && o->target == 0)
                 continue;
-            prepare(o->width, o->s);
+            prepare(o->width, o->bits, o->s);
             CALLGRIND_ZERO_STATS;
             for (unsigned c = 0; c < CALLS; c++)
                 o->run(by);
             CALLGRIND_DUMP_STATS;
-            printf("%s,%u,%zu,%s,%d\n", o->name, o->width, o->s, by == NULL ? "library" : by->name, CALLS);
+            printf("%s,%u,%u,%zu,%s,%d\n", o->name, o->width, o->bits, o->s, by == NULL ? "library" : by->name, CALLS);
         }
     }
 }

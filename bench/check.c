@@ -34,28 +34,28 @@ static int product_joins(const struct plain *p, unsigned width, size_t s)
         && join(c, SHARES, 1) == product_of(p, width, join(a, s, 1), join(b, s, 1));
 }
 
-// At each input, shared at random, the shares of the S-box join to the table's entry.
-static int sbox_joins(const struct plain *p, unsigned width, size_t s, const uint8_t *record, const uint8_t *table)
+// At each input, shared at random, the shares of the S-box join to the table's entry in the output bits.
+static int sbox_joins(const struct plain *p, unsigned width, unsigned bits, size_t s, const uint8_t *record, const uint8_t *table)
 {
-    struct sizes z = sizes_of(width);
+    struct sizes z = sizes_of(width, bits);
     size_t n = random_bytes(width, z.products * pairs(s));
     uint8_t shares[SHARES], random[5 * SHARES * SHARES], out[SHARES];
     for (size_t x = 0; x < z.elements; x++) {
         fill_below((uint32_t)z.elements, shares, s);
         shares[0] ^= join(shares, s, 1) ^ (uint8_t)x;
         fill_below(random_bound(width), random, n);
-        if (p->sbox(record, z.record, s, shares, s, random, n, out, s) != 0 || join(out, s, 1) != table[x])
+        if (p->sbox(record, z.record, s, shares, s, random, n, out, s) != 0 || (join(out, s, 1) & ((1u << bits) - 1)) != table[x])
             return 0;
     }
     return 1;
 }
 
 // Fit finds a record of the table over the basis, and leaves zeros.
-static int fits(const struct plain *p, unsigned width, const uint8_t *table, const uint8_t *basis, uint8_t *record)
+static int fits(const struct plain *p, unsigned width, unsigned bits, const uint8_t *table, const uint8_t *basis, uint8_t *record)
 {
-    struct sizes z = sizes_of(width);
-    uint8_t work[WORK_6] = {0};
-    if (p->fit(width, table, z.elements, basis, z.basis, work, z.work, record, z.record) != 0)
+    struct sizes z = sizes_of(width, bits);
+    uint8_t work[WORK_6_4] = {0};
+    if (p->fit(width, bits, table, z.elements, basis, z.basis, work, z.work, record, z.record) != 0)
         return 0;
     for (size_t i = 0; i < z.work; i++)
         if (work[i] != 0)
@@ -69,8 +69,29 @@ static int zero_basis(const struct plain *p)
     uint8_t basis[COEFFICIENTS_4] = {0}, unit[ELEMENTS_4] = {1}, identity[ELEMENTS_4], work[WORK_4], record[RECORD_4];
     for (unsigned x = 0; x < ELEMENTS_4; x++)
         identity[x] = (uint8_t)x;
-    return p->fit(4, unit, ELEMENTS_4, basis, COEFFICIENTS_4, work, WORK_4, record, RECORD_4) == 4
-        && fits(p, 4, identity, basis, record) && sbox_joins(p, 4, 1, record, identity);
+    return p->fit(4, 4, unit, ELEMENTS_4, basis, COEFFICIENTS_4, work, WORK_4, record, RECORD_4) == 4
+        && fits(p, 4, 4, identity, basis, record) && sbox_joins(p, 4, 4, 1, record, identity);
+}
+
+// The same with four output bits of six, of the identity the low bits.
+static int zero_basis_6_4(const struct plain *p)
+{
+    uint8_t basis[2 * COEFFICIENTS_6] = {0}, unit[ELEMENTS_6] = {1}, low[ELEMENTS_6], work[WORK_6_4], record[RECORD_6_4];
+    for (unsigned x = 0; x < ELEMENTS_6; x++)
+        low[x] = x & 15;
+    return p->fit(6, 4, unit, ELEMENTS_6, basis, sizeof basis, work, WORK_6_4, record, RECORD_6_4) == 4
+        && fits(p, 6, 4, low, basis, record) && sbox_joins(p, 6, 4, 1, record, low);
+}
+
+// The output bits pair with the width, and a table's entry is below 2 to the output bits.
+static int pairs_tested(const struct plain *p)
+{
+    uint8_t basis[2 * COEFFICIENTS_6] = {0}, table[ELEMENTS_6] = {0}, work[WORK_6_4], record[RECORD_6_4];
+    table[5] = 16;
+    return p->fit(5, 5, table, ELEMENTS_6, basis, sizeof basis, work, WORK_6_4, record, RECORD_6_4) == 1
+        && p->fit(6, 5, table, ELEMENTS_6, basis, sizeof basis, work, WORK_6_4, record, RECORD_6_4) == 9
+        && p->fit(6, 4, table, ELEMENTS_6, basis, sizeof basis, work, WORK_6_4, record, RECORD_6) == 2
+        && p->fit(6, 4, table, ELEMENTS_6, basis, sizeof basis, work, WORK_6_4, record, RECORD_6_4) == 3;
 }
 
 static const struct {
@@ -145,20 +166,24 @@ static int aes_vector(const struct plain *p, size_t s)
 
 const char *check_plain(const struct plain *p)
 {
-    uint8_t record_4[RECORD_4], given_6[RECORD_6], record_6[RECORD_6], table_6[ELEMENTS_6];
-    fill_record_6(p, given_6, table_6);
+    uint8_t record_4[RECORD_4], given[RECORD_6], record_6[RECORD_6], table_6[ELEMENTS_6], record_6_4[RECORD_6_4], table_6_4[ELEMENTS_6];
     if (!field_examples(p))
         return "products of the field";
     if (!product_example(p))
         return "the worked masked product";
-    if (!zero_basis(p) || !fits(p, 4, present_sbox, house_basis, record_4) || !fits(p, 6, table_6, given_6 + 6, record_6))
+    fill_record_6(p, 6, given, table_6);
+    if (!zero_basis(p) || !fits(p, 4, 4, present_sbox, house_basis, record_4) || !fits(p, 6, 6, table_6, given + HEAD, record_6))
         return "Fit";
+    fill_record_6(p, 4, given, table_6_4);
+    if (!zero_basis_6_4(p) || !pairs_tested(p) || !fits(p, 6, 4, table_6_4, given + HEAD, record_6_4))
+        return "Fit with four output bits of six";
     if (!present_vectors(p))
         return "the vectors of PRESENT-80";
     for (size_t s = 1; s <= SHARES; s++) {
         if (!product_joins(p, 4, s) || !product_joins(p, 6, s))
             return "the joined masked product";
-        if (!sbox_joins(p, 4, s, record_4, present_sbox) || !sbox_joins(p, 6, s, record_6, table_6))
+        if (!sbox_joins(p, 4, 4, s, record_4, present_sbox) || !sbox_joins(p, 6, 6, s, record_6, table_6)
+            || !sbox_joins(p, 6, 4, s, record_6_4, table_6_4))
             return "the joined masked S-box";
         if (!block_vectors(p, s, record_4))
             return "the vectors of masked PRESENT-80";

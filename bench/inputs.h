@@ -1,4 +1,4 @@
-// What the checks and the measurements run on: random elements from a fixed seed, sharings, and sizes by width.
+// What the checks and the measurements run on: random elements from a fixed seed, sharings, and sizes by width and output bits.
 #ifndef INPUTS_H
 #define INPUTS_H
 #include "plain.h"
@@ -7,15 +7,17 @@
 static const uint8_t house_basis[COEFFICIENTS_4] = {0, 1, 1, 0, 0, 0, 0, 1, 0};
 static const uint8_t present_sbox[ELEMENTS_4] = {12, 5, 6, 11, 9, 0, 10, 13, 3, 14, 15, 8, 4, 7, 1, 2};
 
-// The sizes that go with a width.
+// The sizes that go with a width and output bits.
 struct sizes {
     size_t elements, basis, record, work, products;
 };
 
-static inline struct sizes sizes_of(unsigned width)
+static inline struct sizes sizes_of(unsigned width, unsigned bits)
 {
     if (width == 4)
         return (struct sizes){ELEMENTS_4, COEFFICIENTS_4 * (TERMS_4 - 1), RECORD_4, WORK_4, 2};
+    if (bits == 4)
+        return (struct sizes){ELEMENTS_6, COEFFICIENTS_6 * (TERMS_6_4 - 1), RECORD_6_4, WORK_6_4, 4};
     return (struct sizes){ELEMENTS_6, COEFFICIENTS_6 * (TERMS_6 - 1), RECORD_6, WORK_6, 5};
 }
 
@@ -57,15 +59,17 @@ static inline void fill_below(uint32_t bound, uint8_t *bytes, size_t len)
 }
 
 // A record of width 6 with coefficients of the sequence, and its table. (The form has no x^21, x^42 and x^63 here, so few tables have a record.)
-static inline void fill_record_6(const struct plain *p, uint8_t record[RECORD_6], uint8_t table[ELEMENTS_6])
+static inline void fill_record_6(const struct plain *p, unsigned bits, uint8_t *record, uint8_t table[ELEMENTS_6])
 {
-    static const uint8_t mark[6] = {'D', 'C', 'P', 0, 1, 6};
-    for (size_t i = 0; i < 6; i++)
-        record[i] = mark[i];
-    fill_below(ELEMENTS_6, record + 6, RECORD_6 - 6);
+    const uint8_t head[HEAD] = {'D', 'C', 'P', 0, 2, 6, (uint8_t)bits};
+    const size_t len = sizes_of(6, bits).record;
+    for (size_t i = 0; i < HEAD; i++)
+        record[i] = head[i];
+    fill_below(ELEMENTS_6, record + HEAD, len - HEAD);
     for (size_t i = 0; i < ELEMENTS_6; i++) {
         uint8_t x = (uint8_t)i;
-        p->sbox(record, RECORD_6, 1, &x, 1, &x, 0, table + i, 1);
+        p->sbox(record, len, 1, &x, 1, &x, 0, table + i, 1);
+        table[i] &= (uint8_t)((1u << bits) - 1);
     }
 }
 

@@ -42,19 +42,44 @@ static int all_below(unsigned bound, const uint8_t *bytes, size_t len)
     return 1;
 }
 
-// The width of a record, or the refusal.
-static refusal read_record(const uint8_t *record, size_t len, unsigned *width)
+// The terms of the form, or 0 where the output bits do not pair with the width.
+INLINE unsigned terms_of(unsigned width, unsigned bits)
+{
+    return width == 4 && bits == 4 ? TERMS_4 : width == 6 && bits == 6 ? TERMS_6 : width == 6 && bits == 4 ? TERMS_6_4 : 0;
+}
+
+INLINE size_t coefficients_of(unsigned width)
+{
+    return width == 4 ? COEFFICIENTS_4 : COEFFICIENTS_6;
+}
+
+// What a record says: width, terms and coefficients.
+struct reading {
+    unsigned width, terms;
+    const uint8_t *coefficients;
+};
+
+// Reads a record of either version, or refuses it.
+static refusal read_record(const uint8_t *record, size_t len, struct reading *r)
 {
     if (len < 6)
         return 2;
-    if (memcmp(record, "DCP\0\1", 5) != 0)
+    if (memcmp(record, "DCP\0", 4) != 0 || (record[4] != 1 && record[4] != 2))
         return 5;
-    *width = record[5];
-    if (*width != 4 && *width != 6)
+    r->width = record[5];
+    if (r->width != 4 && r->width != 6)
         return 1;
-    if (len != (*width == 4 ? RECORD_4 : RECORD_6))
+    const size_t head = record[4] == 1 ? 6 : HEAD;
+    if (len < head)
         return 2;
-    return all_below(1u << *width, record + 6, len - 6) ? 0 : 3;
+    r->terms = terms_of(r->width, record[4] == 1 ? r->width : record[6]);
+    if (r->terms == 0)
+        return 9;
+    r->coefficients = record + head;
+    const size_t count = (2 * r->terms - 1) * coefficients_of(r->width);
+    if (len != head + count)
+        return 2;
+    return all_below(1u << r->width, r->coefficients, count) ? 0 : 3;
 }
 
 // ---- the masked product
@@ -115,12 +140,12 @@ INLINE void squares(unsigned n, size_t s, element powers[][SHARES], unsigned e, 
             powers[e + 1][i] = mul(n, powers[e][i], powers[e][i]);
 }
 
-// The S-box at width n of the sharing x, with the random elements from number next on. Returns the number of the one after them.
-INLINE size_t substitute(unsigned n, const uint8_t *restrict record, size_t s, const element *restrict x, const uint8_t *restrict random,
-    size_t next, element *restrict out)
+// The S-box at width n, of so many terms, of the sharing x, with the random elements from number next on. Returns the number of the one after them.
+INLINE size_t substitute(unsigned n, unsigned terms, const uint8_t *restrict polynomial, size_t s, const element *restrict x,
+    const uint8_t *restrict random, size_t next, element *restrict out)
 {
     enum { POLYNOMIALS = 2 * TERMS_6 - 1 };
-    const unsigned coefficients = n == 4 ? COEFFICIENTS_4 : COEFFICIENTS_6, products = (n == 4 ? TERMS_4 : TERMS_6) - 1;
+    const unsigned coefficients = n == 4 ? COEFFICIENTS_4 : COEFFICIENTS_6, products = terms - 1;
     element powers[COEFFICIENTS_6][SHARES], values[POLYNOMIALS][SHARES], product[TERMS_6 - 1][SHARES];
 
     memcpy(powers[1], x, s);
@@ -131,7 +156,6 @@ INLINE size_t substitute(unsigned n, const uint8_t *restrict record, size_t s, c
         next = multiply(n, s, powers[7], powers[4], random, next, powers[13]);
         squares(n, s, powers, 13, 18);
     }
-    const uint8_t *polynomial = record + 6;
     for (unsigned k = 0; k < 2 * products + 1; k++, polynomial += coefficients)
         for (size_t i = 0; i < s; i++) {
             element sum = i == 0 ? polynomial[0] : 0;
@@ -150,33 +174,42 @@ INLINE size_t substitute(unsigned n, const uint8_t *restrict record, size_t s, c
     return next;
 }
 
-static size_t substitute_4(const uint8_t *record, size_t s, const element *x, const uint8_t *random, size_t next, element *out)
+static size_t substitute_4(const uint8_t *polynomial, size_t s, const element *x, const uint8_t *random, size_t next, element *out)
 {
-    return substitute(4, record, s, x, random, next, out);
+    return substitute(4, TERMS_4, polynomial, s, x, random, next, out);
 }
 
-static size_t substitute_6(const uint8_t *record, size_t s, const element *x, const uint8_t *random, size_t next, element *out)
+static size_t substitute_6(const uint8_t *polynomial, size_t s, const element *x, const uint8_t *random, size_t next, element *out)
 {
-    return substitute(6, record, s, x, random, next, out);
+    return substitute(6, TERMS_6, polynomial, s, x, random, next, out);
+}
+
+static size_t substitute_6_4(const uint8_t *polynomial, size_t s, const element *x, const uint8_t *random, size_t next, element *out)
+{
+    return substitute(6, TERMS_6_4, polynomial, s, x, random, next, out);
 }
 
 static refusal plain_sbox(const uint8_t *record, size_t record_len, size_t s, const uint8_t *shares, size_t shares_len,
     const uint8_t *random, size_t random_len, uint8_t *out, size_t out_len)
 {
-    unsigned width;
-    refusal r = read_record(record, record_len, &width);
+    struct reading in;
+    refusal r = read_record(record, record_len, &in);
     if (r != 0)
         return r;
     if (s < 1 || s > SHARES)
         return 7;
-    if (shares_len != s || random_len != bytes_for(width, (width == 4 ? 2 : 5) * (s * (s - 1) / 2)) || out_len != s)
+    // x^3, at width 6 x^11, and one product for each term but the last
+    const size_t products = (in.width == 4 ? 1 : 2) + in.terms - 1;
+    if (shares_len != s || random_len != bytes_for(in.width, products * (s * (s - 1) / 2)) || out_len != s)
         return 2;
-    if (!all_below(1u << width, shares, s) || (width != 4 && !all_below(1u << width, random, random_len)))
+    if (!all_below(1u << in.width, shares, s) || (in.width != 4 && !all_below(1u << in.width, random, random_len)))
         return 3;
-    if (width == 4)
-        substitute_4(record, s, shares, random, 0, out);
+    if (in.width == 4)
+        substitute_4(in.coefficients, s, shares, random, 0, out);
+    else if (in.terms == TERMS_6)
+        substitute_6(in.coefficients, s, shares, random, 0, out);
     else
-        substitute_6(record, s, shares, random, 0, out);
+        substitute_6_4(in.coefficients, s, shares, random, 0, out);
     return 0;
 }
 
@@ -260,8 +293,8 @@ static void plain_present(const uint8_t key[10], const uint8_t block[8], uint8_t
     store(out, x ^ k.high);
 }
 
-// The form of a record of width 4 at an input: q1 p1 + p2.
-static element form_at(const uint8_t *record, element x)
+// The form of width 4 at an input: q1 p1 + p2.
+static element form_at(const uint8_t *polynomial, element x)
 {
     static const unsigned exponents[COEFFICIENTS_4] = {0, 1, 2, 4, 8, 3, 6, 12, 9};
     element value[3] = {0, 0, 0};
@@ -270,15 +303,15 @@ static element form_at(const uint8_t *record, element x)
         for (unsigned k = 0; k < exponents[e]; k++)
             power = mul(4, power, x);
         for (unsigned p = 0; p < 3; p++)
-            value[p] ^= mul(4, record[6 + p * COEFFICIENTS_4 + e], power);
+            value[p] ^= mul(4, polynomial[p * COEFFICIENTS_4 + e], power);
     }
     return mul(4, value[0], value[1]) ^ value[2];
 }
 
-static int is_present(const uint8_t *record)
+static int is_present(const uint8_t *polynomial)
 {
     for (unsigned x = 0; x < ELEMENTS_4; x++)
-        if (form_at(record, (element)x) != present_table[x])
+        if (form_at(polynomial, (element)x) != present_table[x])
             return 0;
     return 1;
 }
@@ -286,13 +319,13 @@ static int is_present(const uint8_t *record)
 static refusal plain_block(const uint8_t *record, size_t record_len, size_t s, const uint8_t *key, size_t key_len,
     const uint8_t *block, size_t block_len, const uint8_t *random, size_t random_len, uint8_t *out, size_t out_len)
 {
-    unsigned width;
-    refusal r = read_record(record, record_len, &width);
+    struct reading in;
+    refusal r = read_record(record, record_len, &in);
     if (r != 0)
         return r;
-    if (width != 4)
+    if (in.width != 4)
         return 1;
-    if (!is_present(record))
+    if (!is_present(in.coefficients))
         return 6;
     if (s < 1 || s > SHARES)
         return 7;
@@ -313,7 +346,7 @@ static refusal plain_block(const uint8_t *record, size_t record_len, size_t s, c
         for (unsigned m = 0; m < 16; m++) {
             for (size_t i = 0; i < s; i++)
                 x[i] = state[i] >> 4 * m & 15;
-            next = substitute_4(record, s, x, random, next, y);
+            next = substitute_4(in.coefficients, s, x, random, next, y);
             for (size_t i = 0; i < s; i++)
                 state[i] = with_nibble(state[i], m, y[i]);
         }
@@ -323,7 +356,7 @@ static refusal plain_block(const uint8_t *record, size_t record_len, size_t s, c
             keys[i] = rotate(keys[i]);
             x[i] = (element)(keys[i].high >> 60);
         }
-        next = substitute_4(record, s, x, random, next, y);
+        next = substitute_4(in.coefficients, s, x, random, next, y);
         for (size_t i = 0; i < s; i++)
             keys[i].high = with_nibble(keys[i].high, 15, y[i]);
         keys[0] = add_round_number(keys[0], round);
@@ -573,40 +606,133 @@ INLINE int read_solution(const element *matrix, size_t rows, size_t unknowns, si
     return 1;
 }
 
-INLINE refusal fit(unsigned n, const uint8_t *table, size_t table_len, const uint8_t *basis, size_t basis_len, uint8_t *work, size_t work_len,
-    uint8_t *record, size_t record_len)
+// The p over elements, at equal widths. Returns 0 if there is none.
+INLINE int solve(unsigned n, const uint8_t *table, const uint8_t *basis, uint8_t *work, element *solution)
 {
     const size_t coefficients = n == 4 ? COEFFICIENTS_4 : COEFFICIENTS_6, terms = n == 4 ? TERMS_4 : TERMS_6;
     const size_t rows = n == 4 ? ELEMENTS_4 : ELEMENTS_6, unknowns = terms * coefficients, columns = unknowns + 1;
-    if (table_len != rows || basis_len != unknowns - coefficients || work_len != rows * (columns + coefficients)
-        || record_len != 6 + basis_len + unknowns)
-        return 2;
-    if (!all_below(1u << n, table, table_len) || !all_below(1u << n, basis, basis_len))
-        return 3;
     element *powers = work + rows * columns;
     for (size_t x = 0; x < rows; x++)
         powers_of(n, (element)x, powers + x * coefficients);
     for (size_t x = 0; x < rows; x++)
         equation(n, basis, powers + x * coefficients, table[x], work + x * columns);
     size_t rank = eliminate(n, work, rows, unknowns);
-    int found = read_solution(work, rows, unknowns, rank, record + 6 + basis_len);
+    return read_solution(work, rows, unknowns, rank, solution);
+}
+
+// ---- Fit over bits, at width 6 with four output bits
+
+// An equation for each bit of each output, in rows of bits, eight a byte: a column for each bit of each coefficient, then the table's bit.
+enum { OUTPUTS = 4, BIT_ROWS = ELEMENTS_6 * OUTPUTS, BIT_UNKNOWNS = TERMS_6_4 * COEFFICIENTS_6 * 6, ROW = 43 };
+
+INLINE unsigned bit_of(const uint8_t *row, size_t column)
+{
+    return row[column / 8] >> column % 8 & 1;
+}
+
+// The equations at input x. Bit b of a coefficient adds its factor times y^b, whose bit i goes to row i.
+static void bit_equations(const uint8_t *basis, element x, element entry, uint8_t rows[OUTPUTS][ROW])
+{
+    element power[COEFFICIENTS_6], column[8 * ROW] = {0};
+    size_t c = 0;
+    powers_of(6, x, power);
+    for (unsigned t = 0; t < TERMS_6_4; t++) {
+        element factor = 1;
+        if (t + 1 < TERMS_6_4) {
+            factor = 0;
+            for (unsigned e = 0; e < COEFFICIENTS_6; e++)
+                factor ^= mul(6, basis[t * COEFFICIENTS_6 + e], power[e]);
+        }
+        for (unsigned e = 0; e < COEFFICIENTS_6; e++) {
+            element v = mul(6, factor, power[e]);
+            for (unsigned b = 0; b < 6; b++) {
+                column[c++] = v;
+                v = mul(6, v, 2);
+            }
+        }
+    }
+    column[c] = entry;
+    for (unsigned i = 0; i < OUTPUTS; i++)
+        for (unsigned k = 0; k < ROW; k++) {
+            unsigned byte = 0;
+            for (unsigned b = 0; b < 8; b++)
+                byte |= (column[8 * k + b] >> i & 1u) << b;
+            rows[i][k] = (uint8_t)byte;
+        }
+}
+
+// Row a becomes row a plus row b, if the bit is set.
+INLINE void add_row(uint8_t *restrict a, const uint8_t *restrict b, unsigned bit)
+{
+    const uint8_t mask = (uint8_t)-bit;
+    for (unsigned k = 0; k < ROW; k++)
+        a[k] ^= b[k] & mask;
+}
+
+// Gauss-Jordan elimination. Returns the rank.
+static size_t eliminate_bits(uint8_t (*matrix)[ROW])
+{
+    size_t rank = 0;
+    for (size_t c = 0; c < BIT_UNKNOWNS; c++) {
+        size_t p = rank;
+        while (p < BIT_ROWS && bit_of(matrix[p], c) == 0)
+            p++;
+        if (p == BIT_ROWS)
+            continue;
+        if (p != rank)
+            add_row(matrix[rank], matrix[p], 1);
+        for (size_t i = 0; i < BIT_ROWS; i++)
+            if (i != rank)
+                add_row(matrix[i], matrix[rank], bit_of(matrix[i], c));
+        rank++;
+    }
+    return rank;
+}
+
+// The p over bits, in the packed equations. Returns 0 if there is none.
+static int solve_bits(const uint8_t *table, const uint8_t *basis, uint8_t *work, element *solution)
+{
+    uint8_t(*matrix)[ROW] = (uint8_t(*)[ROW])work;
+    for (unsigned x = 0; x < ELEMENTS_6; x++)
+        bit_equations(basis, (element)x, table[x], matrix + OUTPUTS * x);
+    size_t rank = eliminate_bits(matrix), column = 0;
+    for (size_t i = rank; i < BIT_ROWS; i++)
+        if (bit_of(matrix[i], BIT_UNKNOWNS) != 0)
+            return 0;
+    memset(solution, 0, BIT_UNKNOWNS / 6);
+    for (size_t i = 0; i < rank; i++) {
+        while (bit_of(matrix[i], column) == 0)
+            column++;
+        solution[column / 6] |= (element)(bit_of(matrix[i], BIT_UNKNOWNS) << column % 6);
+    }
+    return 1;
+}
+
+static refusal plain_fit(unsigned width, unsigned bits, const uint8_t *table, size_t table_len, const uint8_t *basis, size_t basis_len,
+    uint8_t *work, size_t work_len, uint8_t *record, size_t record_len)
+{
+    if (width != 4 && width != 6)
+        return 1;
+    const size_t terms = terms_of(width, bits);
+    if (terms == 0)
+        return 9;
+    const size_t unknowns = terms * coefficients_of(width);
+    if (table_len != 1u << width || basis_len != unknowns - coefficients_of(width)
+        || work_len != (bits != width ? WORK_6_4 : width == 4 ? WORK_4 : WORK_6) || record_len != HEAD + basis_len + unknowns)
+        return 2;
+    if (!all_below(1u << bits, table, table_len) || !all_below(1u << width, basis, basis_len))
+        return 3;
+    element *solution = record + HEAD + basis_len;
+    int found = width == 4 ? solve(4, table, basis, work, solution) //
+        : bits == 6        ? solve(6, table, basis, work, solution)
+                           : solve_bits(table, basis, work, solution);
     memset(work, 0, work_len);
     if (!found)
         return 4;
-    memcpy(record, "DCP\0\1", 5);
-    record[5] = (uint8_t)n;
-    memcpy(record + 6, basis, basis_len);
+    const uint8_t head[HEAD] = {'D', 'C', 'P', 0, 2, (uint8_t)width, (uint8_t)bits};
+    memcpy(record, head, HEAD);
+    memcpy(record + HEAD, basis, basis_len);
     return 0;
-}
-
-static refusal plain_fit(unsigned width, const uint8_t *table, size_t table_len, const uint8_t *basis, size_t basis_len,
-    uint8_t *work, size_t work_len, uint8_t *record, size_t record_len)
-{
-    if (width == 4)
-        return fit(4, table, table_len, basis, basis_len, work, work_len, record, record_len);
-    if (width == 6)
-        return fit(6, table, table_len, basis, basis_len, work, work_len, record, record_len);
-    return 1;
 }
 
 const struct plain PLAIN = {NAME, plain_product, plain_sbox, plain_block, plain_aes_block, plain_fit, plain_present, plain_aes};

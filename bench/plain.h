@@ -7,9 +7,12 @@
 // The most shares.
 enum { SHARES = 9 };
 
-// What goes with a width: coefficients of a polynomial, terms of the form, elements of the field, bytes of a record and of Fit's work.
-enum { COEFFICIENTS_4 = 9, TERMS_4 = 2, ELEMENTS_4 = 16, RECORD_4 = 33, WORK_4 = 448 };
-enum { COEFFICIENTS_6 = 19, TERMS_6 = 4, ELEMENTS_6 = 64, RECORD_6 = 139, WORK_6 = 6144 };
+// What goes with a width and, at width 6, with the output bits: coefficients of a polynomial, elements of the field; terms of the form, bytes of a
+// record of version 2 and of Fit's work. Such a record has its coefficients from byte HEAD on.
+enum { HEAD = 7 };
+enum { COEFFICIENTS_4 = 9, ELEMENTS_4 = 16, TERMS_4 = 2, RECORD_4 = 34, WORK_4 = 448 };
+enum { COEFFICIENTS_6 = 19, ELEMENTS_6 = 64, TERMS_6 = 4, RECORD_6 = 140, WORK_6 = 6144 };
+enum { TERMS_6_4 = 3, RECORD_6_4 = 102, WORK_6_4 = 11008 };
 
 // What an operation answers: 0, or the number of the refusal.
 typedef unsigned refusal;
@@ -36,7 +39,7 @@ struct plain {
         const uint8_t *random, size_t random_len, uint8_t *out, size_t out_len);
 
     // The record of a table over a basis. `work` is all zero afterwards.
-    refusal (*fit)(unsigned width, const uint8_t *table, size_t table_len, const uint8_t *basis, size_t basis_len,
+    refusal (*fit)(unsigned width, unsigned bits, const uint8_t *table, size_t table_len, const uint8_t *basis, size_t basis_len,
         uint8_t *work, size_t work_len, uint8_t *record, size_t record_len);
 
     // PRESENT-80 of one block, without masking.

@@ -42,33 +42,42 @@ enum {
     LL_MARK = 5,        // the mark or the version of a record
     LL_OTHER_TABLE = 6, // the record stands for another table
     LL_SHARE_COUNT = 7, // a share count that is not 1 to 9
-    LL_NO_STEP = 8      // a step number that is not below the number of steps
+    LL_NO_STEP = 8,     // a step number that is not below the number of steps
+    LL_BITS = 9         // output bits that do not pair with the width
 };
 
+// Pairs. A table of width n takes n bits and gives m, the output bits: (n, m) is (4, 4), (6, 6) or (6, 4). The form of a record is over the
+// field of 2^n elements; the table it stands for is its low m bits. A record of version 2 holds m and has 34, 140 or 102 bytes; one of
+// version 1 means m = n and has 33 or 139. All functions that take a record take both.
+
 // Read: tests a record and hands back its width n, 4 or 6.
-// Refuses: 2 under 6 bytes; 5 wrong mark or version; 1 width not 4 or 6; 2 length not 33 (n = 4) or 139 (n = 6);
-// 3 a coefficient not below 2^n (place: its offset in the record).
+// Refuses: 2 under 6 bytes; 5 wrong mark, or version not 1 or 2; 1 width not 4 or 6; in version 2, 2 just 6 bytes, else 9 output bits that
+// do not pair with the width; 2 another length than the pair has in this version; 3 a coefficient not below 2^n (place: its offset in the
+// record).
 void ll_read(const uint8_t *record, size_t record_len, uint64_t answer[4]);
 
-// Check: whether the record's form equals the table at all 2^n inputs.
-// Refuses: as ll_read; 2 table not of 2^n bytes; 3 an entry not below 2^n (table); 6 form and table differ (place: the first input where).
+// Check: whether the low m bits of the record's form equal the table at all 2^n inputs.
+// Refuses: as ll_read; 2 table not of 2^n bytes; 3 an entry not below 2^m (table); 6 form and table differ (place: the first input where).
 void ll_check(const uint8_t *record, size_t record_len, const uint8_t *table, size_t table_len, uint64_t answer[4]);
 
-// Fit: writes the record that decomposes the table over the basis q1 to q(t-1).
-// At width 4: table 16 bytes, basis 9, work 448, record 33. At width 6: table 64, basis 57, work 6,144, record 139.
-// Refuses: 1 width not 4 or 6; 2 any length wrong; 3 an entry not below 2^n (table, then basis); 4 no p meets the table.
-// Work may hold anything; it is all zero after done and after 4, untouched after 1, 2 and 3.
-void ll_fit(uint32_t width, const uint8_t *table, size_t table_len, const uint8_t *basis, size_t basis_len,
+// Fit: writes the record, of version 2, that decomposes the table over the basis q1 to q(t-1). By width and output bits:
+//   4, 4   table 16 bytes, basis  9, work    448, record  34
+//   6, 6   table 64 bytes, basis 57, work  6,144, record 140
+//   6, 4   table 64 bytes, basis 38, work 11,008, record 102
+// Refuses: 1 width not 4 or 6; 9 output bits that do not pair with it; 2 any length wrong; 3 an entry too large (table, not below 2^m; then
+// basis, not below 2^n); 4 no p meets the table.
+// Work may hold anything; it is all zero after done and after 4, untouched after 1, 9, 2 and 3.
+void ll_fit(uint32_t width, uint32_t bits, const uint8_t *table, size_t table_len, const uint8_t *basis, size_t basis_len,
     uint8_t *work, size_t work_len, uint8_t *record, size_t record_len, uint64_t answer[4]);
 
-// House fit: Fit at width 4 over the house basis q1 = x + x^2 + x^12.
+// House fit: Fit with width and output bits 4 over the house basis q1 = x + x^2 + x^12.
 // Refuses: 2, 3, 4 as ll_fit.
 void ll_house_fit(const uint8_t *table, size_t table_len, uint8_t *work, size_t work_len,
     uint8_t *record, size_t record_len, uint64_t answer[4]);
 
 // S-box: the masked S-box that the record stands for, on an element in s shares. Shares and out have s bytes; random has s(s-1)/2 bytes at
-// width 4, two elements each, the high nibble drawn first, and 5s(s-1)/2 at width 6, an element each. Hands back products, random bytes and
-// steps.
+// width 4, two elements each, the high nibble drawn first, and at width 6, an element each, 5s(s-1)/2 with six output bits and 2s(s-1) with
+// four. Out joins to the form, of which the table is the low m bits. Hands back products, random bytes and steps.
 // Refuses: as ll_read; 7 s not 1 to 9; 2 any length wrong; 3 an entry not below 2^n (shares, then, at width 6, random).
 void ll_sbox(const uint8_t *record, size_t record_len, uint32_t s, const uint8_t *shares, size_t shares_len,
     const uint8_t *random, size_t random_len, uint8_t *out, size_t out_len, uint64_t answer[4]);

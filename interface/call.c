@@ -33,24 +33,30 @@ static unsigned calls, failures;
 
 // ---- what the calls are given
 
-static const uint8_t zeros[6145], house_basis[10] = {0, 1, 1, 0, 0, 0, 0, 1, 0};
+static const uint8_t zeros[11009], house_basis[10] = {0, 1, 1, 0, 0, 0, 0, 1, 0};
 static const uint8_t present_table[17] = {12, 5, 6, 11, 9, 0, 10, 13, 3, 14, 15, 8, 4, 7, 1, 2};
 
-// The records of the zero table and of PRESENT's over the house basis, and of the identity over zero bases. A byte longer, as are the
-// other buffers here, so that a slice can be lent that is too long.
-static const uint8_t zero_record[34] = {'D', 'C', 'P', 0, 1, 4, 0, 1, 1, 0, 0, 0, 0, 1, 0};
-static const uint8_t present_record[34] = {'D', 'C', 'P', 0, 1, 4, 0, 1, 1, 0, 0, 0, 0, 1, 0, //
+// The records of the zero table and of PRESENT's over the house basis, and of the identity over zero bases, at width 6 also of its low four
+// bits. They are of version 2, and a byte longer, as are the other buffers here, so that a slice can be lent that is too long.
+static const uint8_t zero_record[35] = {'D', 'C', 'P', 0, 2, 4, 4, 0, 1, 1, 0, 0, 0, 0, 1, 0};
+static const uint8_t present_record[35] = {'D', 'C', 'P', 0, 2, 4, 4, 0, 1, 1, 0, 0, 0, 0, 1, 0, //
     12, 3, 3, 13, 7, 0, 4, 14, 14, 12, 1, 8, 13, 3, 3, 15, 0, 0};
-static const uint8_t identity_record_4[34] = {'D', 'C', 'P', 0, 1, 4, [25] = 1};
-static const uint8_t identity_record_6[140] = {'D', 'C', 'P', 0, 1, 6, [121] = 1};
+static const uint8_t identity_record_4[35] = {'D', 'C', 'P', 0, 2, 4, 4, [26] = 1};
+static const uint8_t identity_record_6[141] = {'D', 'C', 'P', 0, 2, 6, 6, [122] = 1};
+static const uint8_t low_record[103] = {'D', 'C', 'P', 0, 2, 6, 4, [84] = 1};
 
-static uint8_t identity_table[65], fill[6145], nibbles[18973], random_bytes[28801], key_masks[128], block_masks[128];
+// Two of them in version 1, which has no byte for the output bits.
+static const uint8_t present_record_1[34] = {'D', 'C', 'P', 0, 1, 4, 0, 1, 1, 0, 0, 0, 0, 1, 0, //
+    12, 3, 3, 13, 7, 0, 4, 14, 14, 12, 1, 8, 13, 3, 3, 15, 0, 0};
+static const uint8_t identity_record_6_1[140] = {'D', 'C', 'P', 0, 1, 6, [121] = 1};
+
+static uint8_t identity_table[65], low_table[65], fill[11009], nibbles[18973], random_bytes[28801], key_masks[128], block_masks[128];
 
 static void set_up(void)
 {
     memset(fill, FILL, sizeof fill);
     for (size_t i = 0; i < sizeof identity_table; i++)
-        identity_table[i] = (uint8_t)i;
+        identity_table[i] = (uint8_t)i, low_table[i] = i % 16;
     for (size_t i = 0; i < sizeof nibbles; i++)
         nibbles[i] = (uint8_t)((14 * i + 3) % 16 * 16 + (14 * i + 10) % 16); // element k is 7 k + 3 modulo 16
     for (size_t i = 0; i < sizeof random_bytes; i++)
@@ -214,15 +220,17 @@ static void wrong_lengths(const struct operation *op, uint32_t number, const str
         }
 }
 
-// Slice 0 is a record of width 4, and in it one byte is changed, or two.
+// Slice 0 is a record of version 2 and width 4, and in it one byte is changed, or two.
 static void wrong_records(const struct operation *op, uint32_t number, const struct slice *accepted)
 {
-    uint8_t record[33];
+    uint8_t record[34];
     struct slice slices[SLICES];
     memcpy(slices, accepted, op->slices * sizeof *slices);
 
     slices[0] = bytes(accepted[0].entries, 5);
     expect(op, "record of 5 bytes", number, slices, refused(LL_LENGTH, 0), NULL);
+    slices[0] = bytes(accepted[0].entries, 6);
+    expect(op, "record of 6 bytes", number, slices, refused(LL_LENGTH, 0), NULL);
     slices[0] = bytes(record, sizeof record);
     for (unsigned k = 0; k < 5; k++) {
         memcpy(record, accepted[0].entries, sizeof record);
@@ -230,11 +238,25 @@ static void wrong_records(const struct operation *op, uint32_t number, const str
         expect(op, "wrong mark or version", number, slices, refused(LL_MARK, 0), NULL);
     }
     memcpy(record, accepted[0].entries, sizeof record);
+    record[4] = 3;
+    expect(op, "version 3", number, slices, refused(LL_MARK, 0), NULL);
+    record[4] = 2;
     record[5] = 5;
     expect(op, "width 5", number, slices, refused(LL_WIDTH, 0), NULL);
+    record[6] = 5;
+    expect(op, "width 5, output bits 5", number, slices, refused(LL_WIDTH, 0), NULL);
+    slices[0].len = 6;
+    expect(op, "record of 6 bytes, width 5", number, slices, refused(LL_WIDTH, 0), NULL);
     record[5] = 4;
-    record[32] = 255;
-    expect(op, "coefficient 255", number, slices, refused(LL_TOO_LARGE, 32), NULL);
+    slices[0].len = 7;
+    expect(op, "record of 7 bytes, output bits 5", number, slices, refused(LL_BITS, 0), NULL);
+    slices[0].len = sizeof record;
+    expect(op, "output bits 5", number, slices, refused(LL_BITS, 0), NULL);
+    record[6] = 6;
+    expect(op, "width 4, output bits 6", number, slices, refused(LL_BITS, 0), NULL);
+    record[6] = 4;
+    record[33] = 255;
+    expect(op, "coefficient 255", number, slices, refused(LL_TOO_LARGE, 33), NULL);
     record[20] = 16;
     expect(op, "coefficients 16 and 255", number, slices, refused(LL_TOO_LARGE, 20), NULL);
 }
@@ -259,19 +281,27 @@ static void call_read(uint32_t number, void *const *at, const size_t *len, uint6
 static void test_read(void)
 {
     static const struct operation op = {"ll_read", 1, 0, call_read};
-    const struct slice slices[] = {bytes(zero_record, 33)};
+    const struct slice slices[] = {bytes(zero_record, 34)};
     expect(&op, "a record of width 4", 0, slices, done(4, 0, 0), NULL);
-    expect(&op, "a record of width 6", 0, &(struct slice){identity_record_6, 139, 1}, done(6, 0, 0), NULL);
     wrong_lengths(&op, 0, slices);
-    wrong_lengths(&op, 0, &(struct slice){identity_record_6, 139, 1});
     wrong_records(&op, 0, slices);
+    static const struct {
+        const uint8_t *record;
+        size_t len;
+        uint64_t width;
+    } others[] = {{identity_record_6, 140, 6}, {low_record, 102, 6}, {present_record_1, 33, 4}, {identity_record_6_1, 139, 6}};
+    for (unsigned k = 0; k < 4; k++) {
+        const struct slice other = bytes(others[k].record, others[k].len);
+        expect(&op, "a record of another pair or version", 0, &other, done(others[k].width, 0, 0), NULL);
+        wrong_lengths(&op, 0, &other);
+    }
 
-    uint8_t record[33];
+    uint8_t record[34];
     memcpy(record, zero_record, sizeof record);
     record[20] = 15;
-    expect(&op, "coefficient 15", 0, &(struct slice){record, 33, 1}, done(4, 0, 0), NULL);
+    expect(&op, "coefficient 15", 0, &(struct slice){record, 34, 1}, done(4, 0, 0), NULL);
     record[20] = 16;
-    expect(&op, "coefficient 16", 0, &(struct slice){record, 33, 1}, refused(LL_TOO_LARGE, 20), NULL);
+    expect(&op, "coefficient 16", 0, &(struct slice){record, 34, 1}, refused(LL_TOO_LARGE, 20), NULL);
 }
 
 static void call_check(uint32_t number, void *const *at, const size_t *len, uint64_t *answer)
@@ -283,14 +313,20 @@ static void call_check(uint32_t number, void *const *at, const size_t *len, uint
 static void test_check(void)
 {
     static const struct operation op = {"ll_check", 2, 0, call_check};
-    const struct slice slices[] = {bytes(present_record, 33), bytes(present_table, 16)};
+    const struct slice slices[] = {bytes(present_record, 34), bytes(present_table, 16)};
     expect(&op, "PRESENT's table", 0, slices, done(0, 0, 0), NULL);
-    expect(&op, "zero table", 0, (struct slice[]){bytes(zero_record, 33), bytes(zeros, 16)}, done(0, 0, 0), NULL);
-    const struct slice wide[] = {bytes(identity_record_6, 139), bytes(identity_table, 64)};
+    expect(&op, "PRESENT's table, version 1", 0, (struct slice[]){bytes(present_record_1, 33), slices[1]}, done(0, 0, 0), NULL);
+    expect(&op, "zero table", 0, (struct slice[]){bytes(zero_record, 34), bytes(zeros, 16)}, done(0, 0, 0), NULL);
+    const struct slice wide[] = {bytes(identity_record_6, 140), bytes(identity_table, 64)};
     expect(&op, "identity of width 6", 0, wide, done(0, 0, 0), NULL);
+    const struct slice low[] = {bytes(low_record, 102), bytes(low_table, 64)};
+    expect(&op, "its low four bits", 0, low, done(0, 0, 0), NULL);
+    expect(&op, "entry 16, four output bits", 0, (struct slice[]){low[0], wide[1]}, refused(LL_TOO_LARGE, 16), NULL);
+    expect(&op, "low bits, six output bits", 0, (struct slice[]){wide[0], low[1]}, refused(LL_OTHER_TABLE, 16), NULL);
     wrong_records(&op, 0, slices);
     wrong_lengths(&op, 0, slices);
     wrong_lengths(&op, 0, wide);
+    wrong_lengths(&op, 0, low);
 
     uint8_t table[16];
     const struct slice changed[] = {slices[0], bytes(table, 16)};
@@ -305,21 +341,49 @@ static void test_check(void)
 
 // ---- Fit and House fit
 
+static uint32_t output_bits; // of the calls of ll_fit, whose width is the number
+
 static void call_fit(uint32_t number, void *const *at, const size_t *len, uint64_t *answer)
 {
-    ll_fit(number, at[0], len[0], at[1], len[1], at[2], len[2], at[3], len[3], answer);
+    ll_fit(number, output_bits, at[0], len[0], at[1], len[1], at[2], len[2], at[3], len[3], answer);
+}
+
+// Width 6 with four output bits.
+static void fit_low_bits(const struct operation *op)
+{
+    struct slice low[] = {bytes(low_table, 64), bytes(zeros, 38), space(11008), space(102)};
+    output_bits = 4;
+    expect(op, "low bits of the identity over a zero basis", 6, low, done(0, 0, 0), low_record);
+    wrong_lengths(op, 6, low);
+    const uint8_t unit[64] = {1};
+    low[0] = bytes(unit, 64);
+    expect(op, "1, 0 .. 0 over a zero basis, four output bits", 6, low, refused(LL_NO_FIT, 0), NULL);
+    low[0] = bytes(identity_table, 64);
+    expect(op, "entry 16, four output bits", 6, low, refused(LL_TOO_LARGE, 16), NULL);
+    uint8_t basis[38] = {[36] = 63, [37] = 64};
+    low[0] = bytes(low_table, 64), low[1] = bytes(basis, 38);
+    expect(op, "entry 64 in the basis, four output bits", 6, low, refused(LL_TOO_LARGE, 64 + 37), NULL);
 }
 
 static void test_fit(void)
 {
     static const struct operation op = {"ll_fit", 4, 2, call_fit};
-    struct slice slices[] = {bytes(present_table, 16), bytes(house_basis, 9), space(448), space(33)};
+    struct slice slices[] = {bytes(present_table, 16), bytes(house_basis, 9), space(448), space(34)};
+    output_bits = 4;
     expect(&op, "PRESENT's table", 4, slices, done(0, 0, 0), present_record);
     wrong_lengths(&op, 4, slices);
     expect(&op, "width 0", 0, slices, refused(LL_WIDTH, 0), NULL);
     expect(&op, "width 5", 5, slices, refused(LL_WIDTH, 0), NULL);
     expect(&op, "width 260", 260, slices, refused(LL_WIDTH, 0), NULL);
     expect(&op, "width 6, lengths of 4", 6, slices, refused(LL_LENGTH, 0), NULL);
+    const uint32_t unpaired[] = {0, 5, 6, 260, UINT32_MAX};
+    for (unsigned k = 0; k < 5; k++) {
+        output_bits = unpaired[k];
+        expect(&op, "output bits that do not pair with 4", 4, slices, refused(LL_BITS, 0), NULL);
+    }
+    expect(&op, "width 5, output bits 2^32 - 1", 5, slices, refused(LL_WIDTH, 0), NULL);
+    expect(&op, "output bits 2^32 - 1, all slices NULL", 6, (struct slice[]){null(), null(), null(), null()}, refused(LL_BITS, 0), NULL);
+    output_bits = 4;
 
     uint8_t table[16], basis[9];
     memcpy(table, present_table, 16);
@@ -338,11 +402,14 @@ static void test_fit(void)
     slices[0] = bytes(identity_table, 16);
     expect(&op, "identity over a zero basis", 4, slices, done(0, 0, 0), identity_record_4);
 
-    struct slice wide[] = {bytes(identity_table, 64), bytes(zeros, 57), space(6144), space(139)};
+    struct slice wide[] = {bytes(identity_table, 64), bytes(zeros, 57), space(6144), space(140)};
+    expect(&op, "lengths of six output bits", 6, wide, refused(LL_LENGTH, 0), NULL);
+    output_bits = 6;
     expect(&op, "identity of width 6 over a zero basis", 6, wide, done(0, 0, 0), identity_record_6);
     wrong_lengths(&op, 6, wide);
     wide[0] = bytes(identity_table + 1, 64);
     expect(&op, "entry 64 at width 6", 6, wide, refused(LL_TOO_LARGE, 63), NULL);
+    fit_low_bits(&op);
 }
 
 static void call_house_fit(uint32_t number, void *const *at, const size_t *len, uint64_t *answer)
@@ -355,7 +422,7 @@ static void call_house_fit(uint32_t number, void *const *at, const size_t *len, 
 static void test_house_fit(void)
 {
     static const struct operation op = {"ll_house_fit", 3, 2, call_house_fit};
-    struct slice slices[] = {bytes(present_table, 16), space(448), space(33)};
+    struct slice slices[] = {bytes(present_table, 16), space(448), space(34)};
     expect(&op, "PRESENT's table", 0, slices, done(0, 0, 0), present_record);
     wrong_lengths(&op, 0, slices);
     slices[0] = bytes(zeros, 16);
@@ -389,13 +456,18 @@ static void sbox_refusals(const struct operation *op, const struct slice *accept
     memcpy(shares, sbox_shares, 3);
     shares[1] = 16;
     expect(op, "share 16", 3, slices, refused(LL_TOO_LARGE, 1), NULL);
-    slices[0] = bytes(identity_record_6, 139);
+    slices[0] = bytes(identity_record_6, 140);
     slices[2] = bytes(random, 15);
     memset(random, 63, 15);
     random[5] = 64;
     expect(op, "width 6, random element 64", 3, slices, refused(LL_TOO_LARGE, 8), NULL);
     shares[2] = 255;
     expect(op, "width 6, share 255, random element 64", 3, slices, refused(LL_TOO_LARGE, 2), NULL);
+    slices[0] = bytes(low_record, 102);
+    expect(op, "four output bits, random elements of six", 3, slices, refused(LL_LENGTH, 0), NULL);
+    slices[2] = bytes(random, 12);
+    shares[1] = shares[2] = 63;
+    expect(op, "four output bits, random element 64", 3, slices, refused(LL_TOO_LARGE, 8), NULL);
 }
 
 static void call_sbox(uint32_t number, void *const *at, const size_t *len, uint64_t *answer)
@@ -406,8 +478,10 @@ static void call_sbox(uint32_t number, void *const *at, const size_t *len, uint6
 static void test_sbox(void)
 {
     static const struct operation op = {"ll_sbox", 4, 1, call_sbox};
-    const struct slice slices[] = {bytes(present_record, 33), bytes(sbox_shares, 3), bytes(sbox_random, SBOX_RANDOM), space(3)};
+    const struct slice slices[] = {bytes(present_record, 34), bytes(sbox_shares, 3), bytes(sbox_random, SBOX_RANDOM), space(3)};
     expect(&op, "three shares", 3, slices, done(SBOX_PRODUCTS, SBOX_RANDOM, SBOX_STEPS), sbox_out);
+    const struct slice old[] = {bytes(present_record_1, 33), slices[1], slices[2], slices[3]};
+    expect(&op, "version 1", 3, old, done(SBOX_PRODUCTS, SBOX_RANDOM, SBOX_STEPS), sbox_out);
     sbox_refusals(&op, slices);
 
     for (unsigned x = 0; x < 16; x++) {
@@ -424,9 +498,15 @@ static void test_sbox(void)
     expect_shared(&op, "random bytes 255", 3, largest, done(SBOX_PRODUCTS, SBOX_RANDOM, SBOX_STEPS), present_table + (2 ^ 9 ^ 15));
     const struct slice nine[] = {slices[0], bytes(identity_table, 9), bytes(nibbles, 36), space(9)};
     expect_shared(&op, "nine shares", 9, nine, done(2, 36, 1017), present_table + (0 ^ 1 ^ 2 ^ 3 ^ 4 ^ 5 ^ 6 ^ 7 ^ 8));
-    const struct slice wide[] = {bytes(identity_record_6, 139), bytes(identity_table + 61, 3), bytes(identity_table, 15), space(3)};
+    const struct slice wide[] = {bytes(identity_record_6, 140), bytes(identity_table + 61, 3), bytes(identity_table, 15), space(3)};
     const uint8_t value[] = {61 ^ 62 ^ 63};
     expect_shared(&op, "width 6", 3, wide, done(5, 15, 930), value);
+    // The upper two bits are those of the form.
+    const struct slice low[] = {bytes(low_record, 102), wide[1], bytes(identity_table, 12), space(3)};
+    expect_shared(&op, "width 6, four output bits", 3, low, done(4, 12, 687), value);
+    const struct slice low_nine[] = {low[0], bytes(identity_table + 55, 9), bytes(zeros, 144), space(9)};
+    const uint8_t nine_value[] = {55 ^ 56 ^ 57 ^ 58 ^ 59 ^ 60 ^ 61 ^ 62 ^ 63};
+    expect_shared(&op, "nine shares, four output bits", 9, low_nine, done(4, 144, 2817), nine_value);
 }
 
 static void call_sbox_watch(uint32_t number, void *const *at, const size_t *len, uint64_t *answer)
@@ -434,13 +514,25 @@ static void call_sbox_watch(uint32_t number, void *const *at, const size_t *len,
     ll_sbox_watch(at[0], len[0], number, at[1], len[1], at[2], len[2], at[3], len[3], at[4], len[4], answer);
 }
 
+// Width 6 with four output bits: the random elements of the first masked product, the last step, and one past it.
+static void watch_low_bits(const struct operation *op)
+{
+    const uint32_t list[] = {18, 25, 32, 686, 687};
+    const uint8_t shares[] = {0, 0, 60}, random[12] = {1, 2, 3}, values[] = {1, 2, 3, 60};
+    struct slice slices[] = {bytes(low_record, 102), bytes(shares, 3), bytes(random, 12), numbers(list, 4), space(4)};
+    expect(op, "four output bits", 3, slices, done(4, 12, 687), values);
+    slices[3] = numbers(list, 5), slices[4] = space(5);
+    expect(op, "four output bits, step 687", 3, slices, refused(LL_NO_STEP, 4), NULL);
+}
+
 static void test_sbox_watch(void)
 {
     static const struct operation op = {"ll_sbox_watch", 5, 1, call_sbox_watch};
     const struct answer counts = done(SBOX_PRODUCTS, SBOX_RANDOM, SBOX_STEPS);
-    struct slice slices[] = {bytes(present_record, 33), bytes(sbox_shares, 3), bytes(sbox_random, SBOX_RANDOM), numbers(sbox_list, 13), space(13)};
+    struct slice slices[] = {bytes(present_record, 34), bytes(sbox_shares, 3), bytes(sbox_random, SBOX_RANDOM), numbers(sbox_list, 13), space(13)};
     expect(&op, "thirteen steps", 3, slices, counts, sbox_values);
     sbox_refusals(&op, slices);
+    watch_low_bits(&op);
 
     const uint32_t step_0[65] = {0}, past[] = {212, 213, UINT32_MAX};
     uint8_t first_square[64];
@@ -509,11 +601,13 @@ static void block_refusals(const struct operation *op, const struct slice *accep
 
     struct slice slices[SLICES];
     memcpy(slices, accepted, op->slices * sizeof *slices);
-    slices[0] = bytes(identity_record_6, 139);
+    slices[0] = bytes(identity_record_6, 140);
     expect(op, "width 6", 3, slices, refused(LL_WIDTH, 0), NULL);
-    uint8_t record[33];
+    slices[0] = bytes(low_record, 102);
+    expect(op, "width 6, four output bits", 3, slices, refused(LL_WIDTH, 0), NULL);
+    uint8_t record[34];
     memcpy(record, present_record, sizeof record);
-    record[25] ^= 1; // its table differs from PRESENT's, though not at 0
+    record[26] ^= 1; // its table differs from PRESENT's, though not at 0
     slices[0] = bytes(record, sizeof record);
     expect(op, "another table", 3, slices, refused(LL_OTHER_TABLE, 0), NULL);
 }
@@ -528,10 +622,12 @@ static void test_block(void)
     static const struct operation op = {"ll_block", 5, 1, call_block};
     const struct answer counts = done(BLOCK_PRODUCTS, BLOCK_RANDOM, BLOCK_STEPS);
     uint8_t key[91] = {0}, block[73] = {0};
-    struct slice slices[] = {bytes(present_record, 33), bytes(key, 30), bytes(block, 24), bytes(nibbles, BLOCK_RANDOM), space(24)};
+    struct slice slices[] = {bytes(present_record, 34), bytes(key, 30), bytes(block, 24), bytes(nibbles, BLOCK_RANDOM), space(24)};
     share(0xff, 10, 3, key_masks, key);
     share(0x00, 8, 3, block_masks, block);
     expect(&op, "three shares", 3, slices, counts, block_out);
+    const struct slice old[] = {bytes(present_record_1, 33), slices[1], slices[2], slices[3], slices[4]};
+    expect(&op, "version 1", 3, old, counts, block_out);
     block_refusals(&op, slices);
 
     for (unsigned v = 0; v < 4; v++) {
@@ -573,7 +669,7 @@ static void test_block_watch(void)
         values[48 + k] = nibble(block, k) ^ nibble(key, k);
     }
     list[64] = 0;
-    struct slice slices[] = {bytes(present_record, 33), bytes(key, 30), bytes(block, 24), bytes(nibbles, BLOCK_RANDOM), //
+    struct slice slices[] = {bytes(present_record, 34), bytes(key, 30), bytes(block, 24), bytes(nibbles, BLOCK_RANDOM), //
         numbers(list, 64), space(64)};
     expect(&op, "64 steps", 3, slices, counts, values);
     block_refusals(&op, slices);

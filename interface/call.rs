@@ -10,22 +10,27 @@ const HOUSE_BASIS: [u8; 9] = [0, 1, 1, 0, 0, 0, 0, 1, 0];
 const PRESENT_TABLE: [u8; 16] = [12, 5, 6, 11, 9, 0, 10, 13, 3, 14, 15, 8, 4, 7, 1, 2];
 
 /// The record of PRESENT's table over the house basis.
-const PRESENT_RECORD: [u8; 33] = [
-    b'D', b'C', b'P', 0, 1, 4, 0, 1, 1, 0, 0, 0, 0, 1, 0, // mark, version, width, basis
+const PRESENT_RECORD: [u8; 34] = [
+    b'D', b'C', b'P', 0, 2, 4, 4, 0, 1, 1, 0, 0, 0, 0, 1, 0, // mark, version, width, output bits, basis
     12, 3, 3, 13, 7, 0, 4, 14, 14, 12, 1, 8, 13, 3, 3, 15, 0, 0,
 ];
 
-/// The record of the identity over a zero basis.
-fn identity_record(width: u8) -> Vec<u8> {
-    let (length, place) = if width == 4 { (33, 25) } else { (139, 121) };
+/// The record of the identity's low bits over a zero basis of width 6.
+fn identity_record(bits: u8) -> Vec<u8> {
+    let (length, place) = if bits == 4 { (102, 84) } else { (140, 122) };
     let mut record = vec![0; length];
-    record[..6].copy_from_slice(&[b'D', b'C', b'P', 0, 1, width]);
+    record[..7].copy_from_slice(&[b'D', b'C', b'P', 0, 2, 6, bits]);
     record[place] = 1;
     record
 }
 
-fn identity_table(width: u8) -> Vec<u8> {
-    (0..1 << width).collect()
+fn identity_table(bits: u8) -> Vec<u8> {
+    (0..64).map(|x: u8| x % (1 << bits)).collect()
+}
+
+/// A record of equal widths in version 1, which has no byte for the output bits.
+fn version_1(record: &[u8]) -> Vec<u8> {
+    [&record[..4], &[1, record[5]], &record[7..]].concat()
 }
 
 fn with(bytes: &[u8], place: usize, value: u8) -> Vec<u8> {
@@ -122,8 +127,13 @@ impl Calls {
         let record = &PRESENT_RECORD;
         self.refuses("record of 5 bytes", length, 2, 0, |out| call(&record[..5], out));
         self.refuses("wrong mark", length, 5, 0, |out| call(&with(record, 1, b'c'), out));
-        self.refuses("version 2", length, 5, 0, |out| call(&with(record, 4, 2), out));
+        self.refuses("version 3", length, 5, 0, |out| call(&with(record, 4, 3), out));
+        self.refuses("version 1, length of 2", length, 2, 0, |out| call(&with(record, 4, 1), out));
         self.refuses("width 5", length, 1, 0, |out| call(&with(record, 5, 5), out));
+        self.refuses("record of 6 bytes, width 5", length, 1, 0, |out| call(&with(record, 5, 5)[..6], out));
+        self.refuses("record of 6 bytes", length, 2, 0, |out| call(&record[..6], out));
+        self.refuses("output bits 6", length, 9, 0, |out| call(&with(record, 6, 6), out));
+        self.refuses("record of 7 bytes, output bits 5", length, 9, 0, |out| call(&with(record, 6, 5)[..7], out));
         self.refuses("width 6, length of 4", length, 2, 0, |out| call(&with(record, 5, 6), out));
         self.refuses("coefficient 16", length, 3, 20, |out| call(&with(record, 20, 16), out));
     }
@@ -145,9 +155,12 @@ fn by_hand(call: impl FnOnce(&mut Answer)) -> Answer {
 fn read(c: &mut Calls) {
     c.answer("width 4", ll::read(&PRESENT_RECORD), done(4, 0, 0));
     c.answer("width 6", ll::read(&identity_record(6)), done(6, 0, 0));
+    c.answer("width 6, four output bits", ll::read(&identity_record(4)), done(6, 0, 0));
+    c.answer("width 4, version 1", ll::read(&version_1(&PRESENT_RECORD)), done(4, 0, 0));
+    c.answer("width 6, version 1", ll::read(&version_1(&identity_record(6))), done(6, 0, 0));
     c.answer("coefficient 15", ll::read(&with(&PRESENT_RECORD, 20, 15)), done(4, 0, 0));
     c.wrong_records(0, |record, _| ll::read(record));
-    for length in [0, 32, 138] {
+    for length in [0, 6, 7, 33, 102, 139] {
         c.answer("a wrong length", ll::read(&identity_record(6)[..length]), refused(2, 0));
     }
     c.answer("NULL", by_hand(|a| unsafe { raw::ll_read(null(), 0, a) }), refused(2, 0));
@@ -156,61 +169,93 @@ fn read(c: &mut Calls) {
 fn check(c: &mut Calls) {
     let (record, table) = (&PRESENT_RECORD, &PRESENT_TABLE);
     c.answer("PRESENT's table", ll::check(record, table), done(0, 0, 0));
+    c.answer("PRESENT's table, version 1", ll::check(&version_1(record), table), done(0, 0, 0));
     c.answer("identity of width 6", ll::check(&identity_record(6), &identity_table(6)), done(0, 0, 0));
+    c.answer("its low four bits", ll::check(&identity_record(4), &identity_table(4)), done(0, 0, 0));
+    c.answer("entry 16, four output bits", ll::check(&identity_record(4), &identity_table(6)), refused(3, 16));
+    c.answer("low bits, six output bits", ll::check(&identity_record(6), &identity_table(4)), refused(6, 16));
     c.wrong_records(0, |record, _| ll::check(record, table));
     for length in [0, 15] {
         c.answer("a short table", ll::check(record, &table[..length]), refused(2, 0));
     }
     c.answer("entry 16", ll::check(record, &with(table, 7, 16)), refused(3, 7));
     c.answer("last entry differs", ll::check(record, &with(table, 15, 3)), refused(6, 15));
-    c.answer("NULL table", by_hand(|a| unsafe { raw::ll_check(record.as_ptr(), 33, null(), 0, a) }), refused(2, 0));
+    c.answer("NULL table", by_hand(|a| unsafe { raw::ll_check(record.as_ptr(), 34, null(), 0, a) }), refused(2, 0));
+}
+
+/// Width 6 with four output bits.
+fn fit_low_bits(c: &mut Calls) {
+    let mut work = [FILL; 11008];
+    let table = identity_table(4);
+    let record = c.fills("low four bits", 102, done(0, 0, 0), |out| ll::fit(6, 4, &table, &[0; 38], &mut work, out));
+    c.same("record of the low bits", record, identity_record(4));
+    c.same("longest work after done", &work[..], &[0; 11008]);
+
+    work = [FILL; 11008];
+    let unit = with(&[0; 64], 0, 1);
+    c.refuses("1, 0 .. 0, four output bits", 102, 4, 0, |out| ll::fit(6, 4, &unit, &[0; 38], &mut work, out));
+    c.same("longest work after 4", &work[..], &[0; 11008]);
+
+    work = [FILL; 11008];
+    c.refuses("entry 16", 102, 3, 16, |out| ll::fit(6, 4, &identity_table(6), &[0; 38], &mut work, out));
+    c.refuses("entry 64 in the basis", 102, 3, 101, |out| ll::fit(6, 4, &table, &with(&[63; 38], 37, 64), &mut work, out));
+    c.refuses("work of six output bits", 102, 2, 0, |out| ll::fit(6, 4, &table, &[0; 38], &mut work[..6144], out));
+    c.refuses("output bits 5", 102, 9, 0, |out| ll::fit(6, 5, &table, &[0; 38], &mut work, out));
+    c.same("longest work after refusals", &work[..], &[FILL; 11008]);
+    c.wrong_lengths([&table, &[0; 38]], 102, |[table, basis], out| ll::fit(6, 4, table, basis, &mut [FILL; 11008], out));
 }
 
 fn fit(c: &mut Calls) {
     let mut work = [FILL; 448];
-    let record = c.fills("PRESENT's table", 33, done(0, 0, 0), |out| ll::fit(4, &PRESENT_TABLE, &HOUSE_BASIS, &mut work, out));
+    let record = c.fills("PRESENT's table", 34, done(0, 0, 0), |out| ll::fit(4, 4, &PRESENT_TABLE, &HOUSE_BASIS, &mut work, out));
     c.same("PRESENT's record", &record[..], &PRESENT_RECORD);
     c.same("work after done", work, [0; 448]);
 
     let mut wide = [FILL; 6144];
-    let record = c.fills("identity of width 6", 139, done(0, 0, 0), |out| ll::fit(6, &identity_table(6), &[0; 57], &mut wide, out));
+    let record = c.fills("identity of width 6", 140, done(0, 0, 0), |out| ll::fit(6, 6, &identity_table(6), &[0; 57], &mut wide, out));
     c.same("identity's record", record, identity_record(6));
     c.same("wide work after done", wide, [0; 6144]);
 
+    fit_low_bits(c);
+
     work = [FILL; 448];
     let unit = with(&[0; 16], 0, 1);
-    c.refuses("1, 0 .. 0 over a zero basis", 33, 4, 0, |out| ll::fit(4, &unit, &[0; 9], &mut work, out));
+    c.refuses("1, 0 .. 0 over a zero basis", 34, 4, 0, |out| ll::fit(4, 4, &unit, &[0; 9], &mut work, out));
     c.same("work after 4", work, [0; 448]);
 
     work = [FILL; 448];
     for width in [0, 5, 260, u32::MAX] {
-        c.refuses("another width", 33, 1, 0, |out| ll::fit(width, &PRESENT_TABLE, &HOUSE_BASIS, &mut work, out));
+        c.refuses("another width", 34, 1, 0, |out| ll::fit(width, 4, &PRESENT_TABLE, &HOUSE_BASIS, &mut work, out));
     }
-    c.refuses("entry in the basis", 33, 3, 20, |out| ll::fit(4, &PRESENT_TABLE, &with(&HOUSE_BASIS, 4, 16), &mut work, out));
-    c.refuses("entry in the table", 33, 3, 3, |out| ll::fit(4, &with(&PRESENT_TABLE, 3, 16), &HOUSE_BASIS, &mut work, out));
+    for bits in [0, 5, 6, 260, u32::MAX] {
+        c.refuses("other output bits", 34, 9, 0, |out| ll::fit(4, bits, &PRESENT_TABLE, &HOUSE_BASIS, &mut work, out));
+    }
+    c.refuses("width 5, output bits 5", 34, 1, 0, |out| ll::fit(5, 5, &PRESENT_TABLE, &HOUSE_BASIS, &mut work, out));
+    c.refuses("entry in the basis", 34, 3, 20, |out| ll::fit(4, 4, &PRESENT_TABLE, &with(&HOUSE_BASIS, 4, 16), &mut work, out));
+    c.refuses("entry in the table", 34, 3, 3, |out| ll::fit(4, 4, &with(&PRESENT_TABLE, 3, 16), &HOUSE_BASIS, &mut work, out));
     for length in [0, 447] {
-        c.refuses("short work", 33, 2, 0, |out| ll::fit(4, &PRESENT_TABLE, &HOUSE_BASIS, &mut work[..length], out));
+        c.refuses("short work", 34, 2, 0, |out| ll::fit(4, 4, &PRESENT_TABLE, &HOUSE_BASIS, &mut work[..length], out));
     }
     c.same("work after refusals", work, [FILL; 448]);
-    c.wrong_lengths([&PRESENT_TABLE, &HOUSE_BASIS], 33, |[table, basis], out| ll::fit(4, table, basis, &mut [FILL; 448], out));
-    let answer = by_hand(|a| unsafe { raw::ll_fit(4, null(), 0, null(), 0, null_mut(), 0, null_mut(), 0, a) });
+    c.wrong_lengths([&PRESENT_TABLE, &HOUSE_BASIS], 34, |[table, basis], out| ll::fit(4, 4, table, basis, &mut [FILL; 448], out));
+    let answer = by_hand(|a| unsafe { raw::ll_fit(4, 4, null(), 0, null(), 0, null_mut(), 0, null_mut(), 0, a) });
     c.answer("NULL", answer, refused(2, 0));
 }
 
 fn house_fit(c: &mut Calls) {
     let mut work = [FILL; 448];
-    let record = c.fills("PRESENT's table", 33, done(0, 0, 0), |out| ll::house_fit(&PRESENT_TABLE, &mut work, out));
+    let record = c.fills("PRESENT's table", 34, done(0, 0, 0), |out| ll::house_fit(&PRESENT_TABLE, &mut work, out));
     c.same("PRESENT's record", &record[..], &PRESENT_RECORD);
     c.same("work after done", work, [0; 448]);
     c.answer("Check of it", ll::check(&record, &PRESENT_TABLE), done(0, 0, 0));
-    let record = c.fills("zero table", 33, done(0, 0, 0), |out| ll::house_fit(&[0; 16], &mut work, out));
-    c.same("zero p", &record[15..], &[0; 18]);
+    let record = c.fills("zero table", 34, done(0, 0, 0), |out| ll::house_fit(&[0; 16], &mut work, out));
+    c.same("zero p", &record[16..], &[0; 18]);
 
     work = [FILL; 448];
-    c.refuses("entry 16", 33, 3, 15, |out| ll::house_fit(&with(&PRESENT_TABLE, 15, 16), &mut work, out));
-    c.refuses("short work", 33, 2, 0, |out| ll::house_fit(&PRESENT_TABLE, &mut work[..447], out));
+    c.refuses("entry 16", 34, 3, 15, |out| ll::house_fit(&with(&PRESENT_TABLE, 15, 16), &mut work, out));
+    c.refuses("short work", 34, 2, 0, |out| ll::house_fit(&PRESENT_TABLE, &mut work[..447], out));
     c.same("work after refusals", work, [FILL; 448]);
-    c.wrong_lengths([&PRESENT_TABLE], 33, |[table], out| ll::house_fit(table, &mut [FILL; 448], out));
+    c.wrong_lengths([&PRESENT_TABLE], 34, |[table], out| ll::house_fit(table, &mut [FILL; 448], out));
     let answer = by_hand(|a| unsafe { raw::ll_house_fit(null(), 0, null_mut(), 0, null_mut(), 0, a) });
     c.answer("NULL", answer, refused(2, 0));
 }
@@ -224,6 +269,8 @@ const SBOX_COUNTS: Answer = [0, 2, 3, 213];
 fn sbox(c: &mut Calls) {
     let out = c.fills("three shares", 3, SBOX_COUNTS, |out| ll::sbox(&PRESENT_RECORD, 3, &SHARES, &RANDOM, out));
     c.same("three shares", &out[..], &SBOX_OUT);
+    let out = c.fills("version 1", 3, SBOX_COUNTS, |out| ll::sbox(&version_1(&PRESENT_RECORD), 3, &SHARES, &RANDOM, out));
+    c.same("version 1", &out[..], &SBOX_OUT);
     for x in 0..16 {
         let shares = [x ^ 9 ^ 15, 9, 15];
         let out = c.fills("table", 3, SBOX_COUNTS, |out| ll::sbox(&PRESENT_RECORD, 3, &shares, &RANDOM, out));
@@ -231,6 +278,8 @@ fn sbox(c: &mut Calls) {
     }
     let out = c.fills("width 6", 3, done(5, 15, 930), |out| ll::sbox(&identity_record(6), 3, &[61, 62, 63], &[60; 15], out));
     c.same("width 6", add_up(&out, 3)[0], 61 ^ 62 ^ 63);
+    let out = c.fills("four output bits", 3, done(4, 12, 687), |out| ll::sbox(&identity_record(4), 3, &[61, 62, 63], &[60; 12], out));
+    c.same("four output bits, and the form's upper two", add_up(&out, 3)[0], 61 ^ 62 ^ 63);
     let out = c.fills("one share", 1, done(2, 0, 57), |out| ll::sbox(&PRESENT_RECORD, 1, &[4], &[], out));
     c.same("one share", out[0], PRESENT_TABLE[4]);
 
@@ -239,8 +288,9 @@ fn sbox(c: &mut Calls) {
     c.wrong_lengths([&PRESENT_RECORD, &SHARES, &RANDOM], 3, |[record, shares, random], out| ll::sbox(record, 3, shares, random, out));
     c.refuses("share 16", 3, 3, 1, |out| ll::sbox(&PRESENT_RECORD, 3, &with(&SHARES, 1, 16), &RANDOM, out));
     c.refuses("random 64", 3, 3, 8, |out| ll::sbox(&identity_record(6), 3, &SHARES, &with(&[60; 15], 5, 64), out));
+    c.refuses("random of six output bits", 3, 2, 0, |out| ll::sbox(&identity_record(4), 3, &SHARES, &[60; 15], out));
     let mut out = [FILL];
-    let answer = by_hand(|a| unsafe { raw::ll_sbox(PRESENT_RECORD.as_ptr(), 33, 1, [4].as_ptr(), 1, null(), 0, out.as_mut_ptr(), 1, a) });
+    let answer = by_hand(|a| unsafe { raw::ll_sbox(PRESENT_RECORD.as_ptr(), 34, 1, [4].as_ptr(), 1, null(), 0, out.as_mut_ptr(), 1, a) });
     c.answer("one share, random NULL", answer, done(2, 0, 57));
     c.same("one share, random NULL", out[0], PRESENT_TABLE[4]);
 }
@@ -255,6 +305,10 @@ fn sbox_watch(c: &mut Calls) {
     let out = c.fills("64 steps", 64, SBOX_COUNTS, |out| watch(&[212; 64], out));
     c.same("64 steps", out, vec![2; 64]);
     c.fills("no steps", 0, SBOX_COUNTS, |out| watch(&[], out));
+    let watch_low = |list: &[u32], out: &mut [u8]| ll::sbox_watch(&identity_record(4), 3, &[0, 0, 60], &[5; 12], list, out);
+    let out = c.fills("four output bits", 2, done(4, 12, 687), |out| watch_low(&[18, 686], out));
+    c.same("four output bits", out, vec![5, 60]);
+    c.refuses("four output bits, step 687", 2, 8, 1, |out| watch_low(&[686, 687], out));
 
     c.wrong_records(13, |record, out| ll::sbox_watch(record, 3, &SHARES, &RANDOM, &list, out));
     c.wrong_share_counts(13, |s, out| ll::sbox_watch(&PRESENT_RECORD, s, &SHARES, &RANDOM, &list, out));
@@ -266,7 +320,7 @@ fn sbox_watch(c: &mut Calls) {
     c.refuses("random 64", 13, 3, 8, |out| ll::sbox_watch(&identity_record(6), 3, &SHARES, &with(&[60; 15], 5, 64), &list, out));
     c.refuses("step 213", 3, 8, 1, |out| watch(&[212, 213, u32::MAX], out));
     let answer = by_hand(|a| unsafe {
-        raw::ll_sbox_watch(PRESENT_RECORD.as_ptr(), 33, 3, SHARES.as_ptr(), 3, RANDOM.as_ptr(), 3, null(), 0, null_mut(), 0, a)
+        raw::ll_sbox_watch(PRESENT_RECORD.as_ptr(), 34, 3, SHARES.as_ptr(), 3, RANDOM.as_ptr(), 3, null(), 0, null_mut(), 0, a)
     });
     c.answer("NULL list", answer, SBOX_COUNTS);
 }
@@ -287,6 +341,9 @@ fn block(c: &mut Calls) {
         let out = c.fills("vector", 24, BLOCK_COUNTS, |out| ll::block(&PRESENT_RECORD, 3, &key, &block, &random, out));
         c.same("vector", add_up(&out, 3), ciphertext.to_be_bytes().to_vec());
     }
+    let (zero_key, zero_block) = (share(&[0; 10], 3), share(&[0; 8], 3));
+    let out = c.fills("version 1", 24, BLOCK_COUNTS, |out| ll::block(&version_1(&PRESENT_RECORD), 3, &zero_key, &zero_block, &random, out));
+    c.same("version 1", add_up(&out, 3), VECTORS[0].2.to_be_bytes().to_vec());
     let out = c.fills("one share", 8, done(1054, 0, 31729), |out| ll::block(&PRESENT_RECORD, 1, &[0; 10], &[0; 8], &[], out));
     c.same("one share", out, VECTORS[0].2.to_be_bytes().to_vec());
 
@@ -294,14 +351,15 @@ fn block(c: &mut Calls) {
     let with_record = |record: &[u8], out: &mut [u8]| ll::block(record, 3, &key, &block, &random, out);
     c.wrong_records(24, with_record);
     c.refuses("width 6", 24, 1, 0, |out| with_record(&identity_record(6), out));
-    c.refuses("another table", 24, 6, 0, |out| with_record(&with(&PRESENT_RECORD, 25, 0), out));
+    c.refuses("width 6, four output bits", 24, 1, 0, |out| with_record(&identity_record(4), out));
+    c.refuses("another table", 24, 6, 0, |out| with_record(&with(&PRESENT_RECORD, 26, 0), out));
     c.wrong_share_counts(24, |s, out| ll::block(&PRESENT_RECORD, s, &key, &block, &random, out));
     c.wrong_lengths([&PRESENT_RECORD, &key, &block, &random], 24, |[record, key, block, random], out| {
         ll::block(record, 3, key, block, random, out)
     });
     let mut out = [FILL; 8];
     let answer = by_hand(|a| unsafe {
-        raw::ll_block(PRESENT_RECORD.as_ptr(), 33, 1, [0; 10].as_ptr(), 10, [0; 8].as_ptr(), 8, null(), 0, out.as_mut_ptr(), 8, a)
+        raw::ll_block(PRESENT_RECORD.as_ptr(), 34, 1, [0; 10].as_ptr(), 10, [0; 8].as_ptr(), 8, null(), 0, out.as_mut_ptr(), 8, a)
     });
     c.answer("one share, random NULL", answer, done(1054, 0, 31729));
     c.same("one share, random NULL", out, VECTORS[0].2.to_be_bytes());
@@ -323,7 +381,8 @@ fn block_watch(c: &mut Calls) {
     let with_record = |record: &[u8], out: &mut [u8]| ll::block_watch(record, 3, &key, &block, &random, &list, out);
     c.wrong_records(64, with_record);
     c.refuses("width 6", 64, 1, 0, |out| with_record(&identity_record(6), out));
-    c.refuses("another table", 64, 6, 0, |out| with_record(&with(&PRESENT_RECORD, 25, 0), out));
+    c.refuses("width 6, four output bits", 64, 1, 0, |out| with_record(&identity_record(4), out));
+    c.refuses("another table", 64, 6, 0, |out| with_record(&with(&PRESENT_RECORD, 26, 0), out));
     c.wrong_share_counts(64, |s, out| ll::block_watch(&PRESENT_RECORD, s, &key, &block, &random, &list, out));
     c.wrong_lengths([&PRESENT_RECORD, &key, &block, &random], 64, |[record, key, block, random], out| {
         ll::block_watch(record, 3, key, block, random, &list, out)
@@ -332,7 +391,7 @@ fn block_watch(c: &mut Calls) {
     c.refuses("65 steps", 65, 2, 0, |out| watch(&[0; 65], out));
     c.refuses("step 117197", 3, 8, 1, |out| watch(&[117196, 117197, u32::MAX], out));
     let answer = by_hand(|a| unsafe {
-        raw::ll_block_watch(PRESENT_RECORD.as_ptr(), 33, 3, key.as_ptr(), 30, block.as_ptr(), 24, random.as_ptr(), 1581,
+        raw::ll_block_watch(PRESENT_RECORD.as_ptr(), 34, 3, key.as_ptr(), 30, block.as_ptr(), 24, random.as_ptr(), 1581,
             null(), 0, null_mut(), 0, a)
     });
     c.answer("NULL list", answer, BLOCK_COUNTS);

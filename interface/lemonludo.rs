@@ -12,7 +12,7 @@ pub mod raw {
     extern "C" {
         pub fn ll_read(record: *const u8, record_len: usize, answer: &mut Answer);
         pub fn ll_check(record: *const u8, record_len: usize, table: *const u8, table_len: usize, answer: &mut Answer);
-        pub fn ll_fit(width: u32, table: *const u8, table_len: usize, basis: *const u8, basis_len: usize,
+        pub fn ll_fit(width: u32, bits: u32, table: *const u8, table_len: usize, basis: *const u8, basis_len: usize,
             work: *mut u8, work_len: usize, record: *mut u8, record_len: usize, answer: &mut Answer);
         pub fn ll_house_fit(table: *const u8, table_len: usize, work: *mut u8, work_len: usize,
             record: *mut u8, record_len: usize, answer: &mut Answer);
@@ -51,10 +51,10 @@ pub fn check(record: &[u8], table: &[u8]) -> Answer {
     answer
 }
 
-pub fn fit(width: u32, table: &[u8], basis: &[u8], work: &mut [u8], record: &mut [u8]) -> Answer {
+pub fn fit(width: u32, bits: u32, table: &[u8], basis: &[u8], work: &mut [u8], record: &mut [u8]) -> Answer {
     let mut answer = [0; 4];
     unsafe {
-        raw::ll_fit(width, table.as_ptr(), table.len(), basis.as_ptr(), basis.len(),
+        raw::ll_fit(width, bits, table.as_ptr(), table.len(), basis.as_ptr(), basis.len(),
             work.as_mut_ptr(), work.len(), record.as_mut_ptr(), record.len(), &mut answer)
     };
     answer

@@ -16,6 +16,7 @@ WRONG_MARK = 5
 OTHER_TABLE = 6
 WRONG_SHARE_COUNT = 7
 NO_SUCH_STEP = 8
+WRONG_BITS = 9
 
 # number: 0 for done, else the number of the refusal.
 # values: the place of a refusal, or what a call that is done hands back.
@@ -40,10 +41,11 @@ def lengths_differ(*pairs):
     return None
 
 
-def too_large(limit, *slices):
-    """The place is counted through the slices in the order given."""
+def too_large(*pairs):
+    """Pairs of a slice and the limit that its entries must be below. The place is
+    counted through the slices in the order given."""
     place = 0
-    for entries in slices:
+    for entries, limit in pairs:
         for entry in entries:
             if entry >= limit:
                 return (TOO_LARGE, place)

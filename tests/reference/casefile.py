@@ -19,6 +19,7 @@ PARAMETERS = {
     "check": (RECORD, ("table", BYTES)),
     "fit": (
         ("width", NUMBER),
+        ("bits", NUMBER),
         ("table", BYTES),
         ("basis", BYTES),
         ("work", FILLED),
@@ -69,6 +70,9 @@ PARAMETERS = {
     "split": (("value", BYTES), S, ("masks", BYTES), ("out", BYTES)),
     "join": (("shares", BYTES), S, ("out", BYTES)),
 }
+
+# A case file has fewer bytes.
+LONGEST_FILE = 393215
 
 LENT_FOR_WRITING = ("work", "record_out", "out", "values")
 
@@ -122,7 +126,10 @@ def encode_case(name, inputs):
 def encode_file(name, all_inputs):
     # A case met twice is kept once.
     cases = list(dict.fromkeys(encode_case(name, inputs) for inputs in all_inputs))
-    return number(len(cases)) + b"".join(cases)
+    data = number(len(cases)) + b"".join(cases)
+    if len(data) >= LONGEST_FILE:
+        raise ValueError(f"{name}.cases has {len(data)} bytes")
+    return data
 
 
 # ------------------------------------------------------------------- decoding

@@ -4,29 +4,35 @@ Each function NAME_cases yields the inputs of one operation after another. What
 the operation answers is worked out when the case is written down.
 """
 
-from itertools import combinations
+from itertools import combinations, product
 
 import aes
+import des
 from aes_steps import aes_random, aes_sbox_steps, aes_steps
 from decomposition import (
-    FIRST_COEFFICIENT,
     HOUSE_BASIS,
+    LETTERS,
     PARTS,
     RECORD_LENGTH,
     WORK_LENGTH,
     basis_length,
     cut,
-    form_at,
+    head_length,
     pack_record,
+    pair_of,
     solve,
+    table_of,
+    version_of,
 )
 from field import EXPONENTS, PRODUCT, evaluate
-from operations import split
+from operations import random_limit, split
 from present import SBOX, vectors
 from prng import Prng
 from steps import block_random, block_steps, sbox_random, sbox_steps
 
-WIDTHS = (4, 6)
+# A pair is the width and the output bits; a layout is the pair and the version.
+PAIRS = tuple(PARTS)
+LAYOUTS = tuple((pair, version) for version in (1, 2) for pair in RECORD_LENGTH[version])
 SHARE_COUNTS = range(1, 10)
 PRESENT_TABLE = bytes(SBOX)
 
@@ -34,6 +40,7 @@ PRESENT_TABLE = bytes(SBOX)
 WRONG_SHARE_COUNTS = (0, 10, 11, 16, 127, 128, 255, 256, 257, 259, 265, 65535, 65536)
 WRONG_SHARE_COUNTS += (65537, 2**24 + 3, 2**31, 2**31 + 1, 2**32 - 1)
 WRONG_WIDTHS = (0, 1, 2, 3, 5, 7, 8, 10, 16, 64, 255, 256, 260, 262, 65540, 2**32 - 1)
+WRONG_BITS = (0, 1, 2, 3, 5, 7, 8, 24, 64, 255, 256, 260, 262, 65540, 65542, 2**32 - 1)
 
 
 # --------------------------------------------------------------- small helpers
@@ -72,40 +79,47 @@ def sharing(prng, value, s):
 # --------------------------------------------------------------------- records
 
 
-def zero_record(width):
-    return pack_record(width, bytes(basis_length(width)), bytes(p_length(width)))
+def zero_record(pair, version=2):
+    return pack_record(pair, bytes(basis_length(pair)), bytes(p_length(pair)), version)
 
 
-def p_length(width):
-    return PARTS[width] * len(EXPONENTS[width])
+def p_length(pair):
+    return PARTS[pair] * len(EXPONENTS[pair[0]])
 
 
-def random_record(prng, width):
-    basis = prng.elements(2**width, basis_length(width))
-    return pack_record(width, basis, prng.elements(2**width, p_length(width)))
+def random_record(prng, pair, version=2):
+    limit = 2 ** pair[0]
+    basis = prng.elements(limit, basis_length(pair))
+    return pack_record(pair, basis, prng.elements(limit, p_length(pair)), version)
 
 
-def full_record(width):
+def full_record(pair, version=2):
     """Every coefficient the largest there is."""
-    top = 2**width - 1
-    return pack_record(width, [top] * basis_length(width), [top] * p_length(width))
+    top = 2 ** pair[0] - 1
+    return pack_record(pair, [top] * basis_length(pair), [top] * p_length(pair), version)
 
 
-def table_of(record):
-    return bytes(form_at(record, x) for x in range(2 ** record[5]))
+def in_version(record, version):
+    """The same coefficients in a record of another version."""
+    return pack_record(pair_of(record), record[head_length(record) :], b"", version)
 
 
-def house_record(table):
-    return pack_record(4, HOUSE_BASIS, solve(4, table, HOUSE_BASIS))
+def any_version(prng, record):
+    """A record of equal widths in either version."""
+    return in_version(record, 1 + prng.below(2)) if record[5] == record[6] else record
+
+
+def house_record(table, version=2):
+    return pack_record((4, 4), HOUSE_BASIS, solve((4, 4), table, HOUSE_BASIS), version)
 
 
 def fitted_record(prng, table):
     """A width 4 record for the table, with a random basis."""
     while True:
         basis = prng.elements(16, 9)
-        p = solve(4, table, basis)
+        p = solve((4, 4), table, basis)
         if p is not None:
-            return pack_record(4, basis, p)
+            return pack_record((4, 4), basis, p)
 
 
 def twin_record(record, c, d):
@@ -114,7 +128,7 @@ def twin_record(record, c, d):
     c added to p1 is met by c*q1 added to p2; d*q1 added to p1 is met by d*q1^2
     added to p2, and the squares of the listed powers are listed themselves.
     """
-    q, p1, p2 = (list(part) for part in cut(4, record[FIRST_COEFFICIENT:]))
+    q, p1, p2 = (list(part) for part in cut(4, record[head_length(record) :]))
     times = PRODUCT[4]
     p1[0] ^= c
     for k, exponent in enumerate(EXPONENTS[4]):
@@ -122,22 +136,22 @@ def twin_record(record, c, d):
         p2[k] ^= times[c][q[k]]
         double = EXPONENTS[4].index(exponent * 2 % 15)
         p2[double] ^= times[d][times[q[k]][q[k]]]
-    return pack_record(4, q, p1 + p2)
+    return pack_record((4, 4), q, p1 + p2, version_of(record))
 
 
 def present_records(prng):
-    """Records of PRESENT's table: from Fit with several bases, and others."""
+    """Records of PRESENT's table: from Fit with several bases, and others; both versions."""
     house = house_record(PRESENT_TABLE)
     records = [house] + [fitted_record(prng, PRESENT_TABLE) for _ in range(4)]
     records += [twin_record(house, 1, 0), twin_record(house, 0, 1), twin_record(house, 9, 14)]
     records.append(twin_record(records[1], 5, 3))
-    return records
+    return [in_version(record, 2 - k % 2) for k, record in enumerate(records)]
 
 
 def almost_present_records():
     """For each input, a record whose form differs from PRESENT's table there only."""
     for x in range(16):
-        yield house_record(put(PRESENT_TABLE, x, PRESENT_TABLE[x] ^ 1 << x % 4))
+        yield house_record(put(PRESENT_TABLE, x, PRESENT_TABLE[x] ^ 1 << x % 4), 1 + x % 2)
 
 
 def damaged_headers(record):
@@ -145,11 +159,20 @@ def damaged_headers(record):
     for place in range(5):
         for value in (record[place] ^ 1, record[place] ^ 32, record[place] + 2, 255):
             yield put(record, place, value)
-    yield put(put(record, 3, 1), 4, 0)  # version 256: the bytes exchanged
+    yield put(record, 4, 3 - record[4])  # the other version: the rest does not go with it
+    yield put(put(record, 3, record[4]), 4, 0)  # the bytes of the version exchanged
+    yield put(record, 3, 1)
     yield b"PCD" + record[3:]
     other_width = 10 - record[5]
     for width in (0, 1, 2, 3, 5, 7, 8, 12, 16, 64, 128 + record[5], 255, other_width):
         yield put(record, 5, width)
+
+
+def damaged_bits(record):
+    """Output bits that do not pair with the width, and other pairs than the record's."""
+    for bits in (0, 1, 2, 3, 4, 5, 6, 7, 8, 12, 64, 128 + record[6], 255):
+        if bits != record[6]:
+            yield put(record, 6, bits)
 
 
 def damaged_coefficients(prng, record, places):
@@ -159,7 +182,7 @@ def damaged_coefficients(prng, record, places):
 
 
 def coefficient_places(record):
-    return range(FIRST_COEFFICIENT, len(record))
+    return range(head_length(record), len(record))
 
 
 def doubly_damaged(prng, record):
@@ -167,7 +190,7 @@ def doubly_damaged(prng, record):
     limit = 2 ** record[5]
     last = len(record) - 1
     for _ in range(4):
-        first = FIRST_COEFFICIENT + prng.below(last - FIRST_COEFFICIENT)
+        first = head_length(record) + prng.below(last - head_length(record))
         second = first + 1 + prng.below(last - first)
         yield put(put(record, first, large(prng, limit)), second, large(prng, limit))
     bad_coefficient = put(record, last - 1, 255)
@@ -175,9 +198,23 @@ def doubly_damaged(prng, record):
     yield bad_coefficient + b"\x00"
     yield put(bad_coefficient, 5, 5)  # width before coefficient
     yield put(record, 5, 5)[:-1]  # width before length
+    yield put(put(record, 5, 5), 0, 0)  # mark before width
     yield put(put(bad_coefficient, 5, 5), 0, 0)[:-1]  # mark before all that
-    yield put(put(record, 5, 9), 4, 2)[:-1]
+    yield put(put(record, 5, 9), 4, 3)[:-1]
     yield put(record, 1, 0)[:5]  # under 6 bytes before the mark
+    if version_of(record) == 2:
+        yield from doubly_damaged_bits(record)
+
+
+def doubly_damaged_bits(record):
+    wrong_bits = put(record, 6, 5)
+    yield put(wrong_bits, 5, 5)  # width before output bits
+    yield put(wrong_bits, 4, 3)  # version before output bits
+    yield put(record[:6], 5, 5)  # width before the length of six bytes
+    yield wrong_bits[:7]  # output bits before length
+    yield wrong_bits[:-1]
+    yield wrong_bits + b"\x00"
+    yield put(wrong_bits, len(record) - 1, 255)  # output bits before coefficient
 
 
 def refused_records(prng, record):
@@ -185,33 +222,51 @@ def refused_records(prng, record):
 
     At width 4 every byte is damaged once; at width 6 a part of them.
     """
-    for place in range(FIRST_COEFFICIENT):
-        yield put(record, place, record[place] ^ 1)
+    for place in range(6):
+        # Version 2 less one is a version too.
+        yield put(record, place, record[place] ^ (1 if place != 4 else 4))
     step = 1 if record[5] == 4 else 19
     yield from damaged_coefficients(prng, record, coefficient_places(record)[::step])
     yield from damaged_coefficients(prng, record, [len(record) - 1])
-    for length in (0, 5, 6, len(record) - 1):
+    for length in (0, 5, 6, 7, len(record) - 1):
         yield record[:length]
     yield record + b"\x00"
+    yield put(record, 4, 3 - record[4])
     for width in (0, 5, 8, 255, 10 - record[5]):
         yield put(record, 5, width)
+    if version_of(record) == 2:
+        for bits in (0, 5, 10 - record[6], 255):
+            yield put(record, 6, bits)
     yield from doubly_damaged(prng, record)
 
 
 # ------------------------------------------------------------------------ Read
 
 
+def short_and_odd_heads():
+    """All heads of some versions, widths and output bits, at the lengths of interest,
+    with coefficients of 0 and with one that is too large."""
+    lengths = (5, 6, 7, 33, 34, 102, 139, 140)
+    for version, width, bits in product((0, 1, 2, 3), (4, 5, 6), (0, 4, 5, 6, 255)):
+        whole = LETTERS + bytes([0, version, width, bits]) + bytes(140)
+        for length in lengths:
+            yield whole[:length]
+            if length > 7:
+                yield put(whole[:length], length - 1, 255)
+
+
 def read_cases():
     prng = Prng(101)
     house = house_record(PRESENT_TABLE)
     yield (house,)
-    for width in WIDTHS:
-        yield (zero_record(width),)
-        yield (full_record(width),)
-        for _ in range(12):
-            yield (random_record(prng, width),)
+    yield (in_version(house, 1),)
+    for pair, version in LAYOUTS:
+        yield (zero_record(pair, version),)
+        yield (full_record(pair, version),)
+        for _ in range(8):
+            yield (random_record(prng, pair, version),)
 
-    for record in (house, random_record(prng, 6)):
+    for record in (house, *[random_record(prng, *layout) for layout in LAYOUTS]):
         for damaged in damaged_headers(record):
             yield (damaged,)
         for damaged in doubly_damaged(prng, record):
@@ -220,20 +275,32 @@ def read_cases():
             yield (put(record, place, 255 if place % 2 else 2 ** record[5]),)
             if record[5] == 4:
                 yield (put(record, place, 2 ** record[5] if place % 2 else 255),)
+        if version_of(record) == 2:
+            for damaged in damaged_bits(record):
+                yield (damaged,)
     # In a width 6 record 16 to 63 are fine, in a width 4 one they are not.
-    yield (put(zero_record(6), 77, 63),)
-    yield (put(zero_record(4), 20, 63),)
+    for version in (1, 2):
+        yield (put(zero_record((6, 6), version), 77, 63),)
+        yield (put(zero_record((4, 4), version), 20, 63),)
+    yield (put(zero_record((6, 4)), 77, 63),)
 
-    for length in range(RECORD_LENGTH[4]):
-        yield (house[:length],)
-    for length in (34, 64, 138, 139, 140):
-        yield (resize(prng, house, length, 16),)
-    wide = random_record(prng, 6)
-    for length in (0, 5, 6, 7, 32, 33, 34, 100, 138, 140, 141, 278):
-        yield (resize(prng, wide, length, 64),)
+    for version in (1, 2):
+        record = in_version(house, version)
+        for length in range(len(record)):
+            yield (record[:length],)
+        for length in (33, 34, 35, 64, 101, 102, 103, 138, 139, 140, 141):
+            yield (resize(prng, record, length, 16),)
+    for layout in LAYOUTS:
+        if layout[0][0] == 6:
+            wide = random_record(prng, *layout)
+            for length in (0, 5, 6, 7, 8, 32, 33, 34, 101, 102, 103, 138, 139, 140, 141, 278):
+                yield (resize(prng, wide, length, 64),)
+    yield from ((record,) for record in short_and_odd_heads())
     yield (b"DCP",)
     yield (bytes(6),)
+    yield (bytes(7),)
     yield (bytes(33),)
+    yield (bytes(34),)
     yield (bytes(139),)
     yield (b"\xff" * 33,)
 
@@ -245,86 +312,112 @@ def check_cases():
     prng = Prng(102)
     for record in present_records(prng):
         yield record, PRESENT_TABLE
-    for width in WIDTHS:
-        yield zero_record(width), bytes(2**width)
-        yield full_record(width), table_of(full_record(width))
-        for _ in range(20):
-            record = random_record(prng, width)
+    for pair, version in LAYOUTS:
+        size = 2 ** pair[0]
+        yield zero_record(pair, version), bytes(size)
+        yield full_record(pair, version), table_of(full_record(pair, version))
+        for _ in range(10):
+            record = random_record(prng, pair, version)
             yield record, table_of(record)
 
     for record in almost_present_records():
         yield record, PRESENT_TABLE
-    for width in WIDTHS:
-        record = random_record(prng, width)
+    for pair in PAIRS:
+        size, limit = 2 ** pair[0], 2 ** pair[1]
+        record = any_version(prng, random_record(prng, pair))
         table = table_of(record)
-        for x in range(2**width):
-            yield record, put(table, x, table[x] ^ 1 << x % width)
+        for x in range(size):
+            yield record, put(table, x, table[x] ^ 1 << x % pair[1])
         for _ in range(6):  # several differ: the first counts
-            yield record, table_of(random_record(prng, width))
-            x = prng.below(2**width - 1)
-            later = x + 1 + prng.below(2**width - 1 - x)
+            yield record, table_of(random_record(prng, pair))
+            x = prng.below(size - 1)
+            later = x + 1 + prng.below(size - 1 - x)
             yield record, put(put(table, x, table[x] ^ 1), later, table[later] ^ 3)
 
-        for x in range(2**width):
-            yield record, put(table, x, 2**width if x % 2 else 255)
+        for x in range(size):
+            yield record, put(table, x, limit if x % 2 else 255)
         for _ in range(4):
-            x = prng.below(2**width)
-            bad = put(table, x, large(prng, 2**width))
-            x = prng.below(2**width)
-            yield record, put(bad, x, large(prng, 2**width))
-            yield record, put(put(table, 0, table[0] ^ 1), 2**width - 1, 255)  # 3 before 6
+            x = prng.below(size)
+            bad = put(table, x, large(prng, limit))
+            x = prng.below(size)
+            yield record, put(bad, x, large(prng, limit))
+            yield record, put(put(table, 0, table[0] ^ 1), size - 1, 255)  # 3 before 6
         for length in (0, 1, 15, 16, 17, 32, 63, 64, 65, 256):
-            if length != 2**width:
-                yield record, resize(prng, table, length, 2**width)
-        yield record, b"\xff" * (2**width - 1)  # 2 before 3
-
+            if length != size:
+                yield record, resize(prng, table, length, limit)
+        yield record, b"\xff" * (size - 1)  # 2 before 3
+    for layout in LAYOUTS:
+        record = random_record(prng, *layout)
+        table = table_of(record)
         for damaged in refused_records(prng, record):
             yield damaged, table
-        yield record[:-1], table[:-1]
+        yield record[:-1], table[:-1]  # Read's before 2 and 3
         yield put(record, 5, 7), b"\xff" * 7
+        yield put(record, len(record) - 1, 255), table[:-1]
+    # The same coefficients with another reading of the table's bits: 16 to 63 are entries
+    # of (6, 6) alone, and so is the whole form.
+    narrow = random_record(prng, (6, 4))
+    q1, q2, p1, p2, p3 = cut(6, narrow[7:])
+    none = bytes(19)
+    wide = pack_record((6, 6), q1 + q2 + none, p1 + p2 + none + p3)
+    for record in (narrow, wide, in_version(wide, 1)):
+        yield record, table_of(wide)
+        yield record, table_of(narrow)
 
 
 # ------------------------------------------------------------- Fit, House fit
 
 
-def fit_inputs(prng, width, table, basis):
-    work = bytes([1 + prng.below(255)]) * WORK_LENGTH[width]
-    return width, bytes(table), bytes(basis), work, prng.pattern(RECORD_LENGTH[width])
+def fit_inputs(prng, pair, table, basis):
+    work = bytes([1 + prng.below(255)]) * WORK_LENGTH[pair]
+    return *pair, bytes(table), bytes(basis), work, prng.pattern(RECORD_LENGTH[2][pair])
 
 
-def basis_of(width, *terms):
+def basis_of(pair, *terms):
     """One q for each set of exponents given; the others are 0."""
-    basis = bytearray(basis_length(width))
-    size = len(EXPONENTS[width])
-    for k, exponents in enumerate(terms):
-        for exponent in exponents:
-            basis[k * size + EXPONENTS[width].index(exponent)] = 1
+    basis = bytearray(basis_length(pair))
+    exponents = EXPONENTS[pair[0]]
+    for k, chosen in enumerate(terms):
+        for exponent in chosen:
+            basis[k * len(exponents) + exponents.index(exponent)] = 1
     return bytes(basis)
 
 
-def thin_bases(prng, width):
+def thin_bases(prng, pair):
     """Bases of low rank: many columns are combinations of earlier ones."""
-    size = len(EXPONENTS[width])
-    yield bytes(basis_length(width))
+    width, size = pair[0], len(EXPONENTS[pair[0]])
+    yield bytes(basis_length(pair))
     for exponent in EXPONENTS[width]:
-        yield basis_of(width, [exponent])
-    yield basis_of(width, [1, 2])
-    yield basis_of(width, [0, 3])
-    yield bytes([2**width - 1]) + bytes(basis_length(width) - 1)
-    if width == 6:
-        q = prng.elements(64, size)
+        yield basis_of(pair, [exponent])
+    yield basis_of(pair, [1, 2])
+    yield basis_of(pair, [0, 3])
+    yield bytes([2**width - 1]) + bytes(basis_length(pair) - 1)
+    q, none = prng.elements(2**width, size), bytes(size)
+    if pair == (6, 6):
         yield q + q + q
-        yield bytes(2 * size) + q
-        yield q + bytes(2 * size)
-        yield bytes(size) + q + prng.elements(64, size)
-        yield basis_of(6, [1], [2], [4])
-        yield basis_of(6, [3], [6], [11])
-        yield basis_of(6, [0], [0], [1, 11])
+        yield none + none + q
+        yield q + none + none
+        yield none + q + prng.elements(64, size)
+        yield basis_of(pair, [1], [2], [4])
+        yield basis_of(pair, [3], [6], [11])
+        yield basis_of(pair, [0], [0], [1, 11])
+    if pair == (6, 4):
+        yield q + q
+        yield none + q
+        yield q + none
+        yield basis_of(pair, [1], [2])
+        yield basis_of(pair, [3], [11])
+        yield basis_of(pair, [0], [1, 11])
 
 
-def table_from(prng, width, basis):
-    """A table that some p meets: the form with random p."""
-    return table_of(pack_record(width, basis, prng.elements(2**width, p_length(width))))
+def table_from(prng, pair, basis):
+    """A table that some p meets: the low bits of the form with random p."""
+    p = prng.elements(2 ** pair[0], p_length(pair))
+    return table_of(pack_record(pair, basis, p))
+
+
+def random_basis(prng, pair):
+    return prng.elements(2 ** pair[0], basis_length(pair))
 
 
 def quadratic_table(prng):
@@ -347,83 +440,146 @@ def shuffled(prng, size):
 
 
 def fit_solvable_and_none(prng):
-    for width in WIDTHS:
-        size = 2**width
-        random_basis = prng.elements(size, basis_length(width))
-        zero_basis = bytes(basis_length(width))
-        identity = bytes(range(size))
-        for basis in (random_basis, zero_basis, basis_of(width, [1, 2, 3])):
-            yield fit_inputs(prng, width, bytes(size), basis)
-            yield fit_inputs(prng, width, identity, basis)
-            yield fit_inputs(prng, width, bytes([size - 1]) * size, basis)
+    for pair in PAIRS:
+        size, limit = 2 ** pair[0], 2 ** pair[1]
+        identity = bytes(x % limit for x in range(size))
+        for basis in (
+            random_basis(prng, pair),
+            bytes(basis_length(pair)),
+            basis_of(pair, [1, 2, 3]),
+        ):
+            yield fit_inputs(prng, pair, bytes(size), basis)
+            yield fit_inputs(prng, pair, identity, basis)
+            yield fit_inputs(prng, pair, bytes([limit - 1]) * size, basis)
             for x in (0, 1, size - 1):  # 1, 0, 0 .. and the like
-                yield fit_inputs(prng, width, put(bytes(size), x, 1), basis)
-        for basis in thin_bases(prng, width):
-            yield fit_inputs(prng, width, table_from(prng, width, basis), basis)
-            yield fit_inputs(prng, width, prng.elements(size, size), basis)
+                yield fit_inputs(prng, pair, put(bytes(size), x, 1), basis)
+        for basis in thin_bases(prng, pair):
+            yield fit_inputs(prng, pair, table_from(prng, pair, basis), basis)
+            yield fit_inputs(prng, pair, prng.elements(limit, size), basis)
         for _ in range(24):
-            basis = prng.elements(size, basis_length(width))
-            other = prng.elements(size, basis_length(width))
-            yield fit_inputs(prng, width, table_from(prng, width, basis), basis)
-            yield fit_inputs(prng, width, table_from(prng, width, other), basis)
+            basis, other = random_basis(prng, pair), random_basis(prng, pair)
+            yield fit_inputs(prng, pair, table_from(prng, pair, basis), basis)
+            yield fit_inputs(prng, pair, table_from(prng, pair, other), basis)
         for _ in range(8):
-            basis = prng.elements(size, basis_length(width))
-            yield fit_inputs(prng, width, prng.elements(size, size), basis)
-            yield fit_inputs(prng, width, shuffled(prng, size), basis)
+            basis = random_basis(prng, pair)
+            yield fit_inputs(prng, pair, prng.elements(limit, size), basis)
+            yield fit_inputs(prng, pair, bytes(v % limit for v in shuffled(prng, size)), basis)
     for _ in range(12):
-        yield fit_inputs(prng, 4, PRESENT_TABLE, prng.elements(16, 9))
-        yield fit_inputs(prng, 4, prng.elements(16, 16), prng.elements(16, 9))
-        yield fit_inputs(prng, 6, quadratic_table(prng), prng.elements(64, 57))
-    yield fit_inputs(prng, 4, PRESENT_TABLE, HOUSE_BASIS)
-    yield fit_inputs(prng, 4, b"\x0f" * 16, b"\x0f" * 9)
-    # One entry changed in a table that fits: none fits any more.
-    basis = prng.elements(64, 57)
-    table = table_from(prng, 6, basis)
-    for x in (0, 31, 63):
-        yield fit_inputs(prng, 6, put(table, x, table[x] ^ 32), basis)
+        yield fit_inputs(prng, (4, 4), PRESENT_TABLE, prng.elements(16, 9))
+        yield fit_inputs(prng, (4, 4), prng.elements(16, 16), prng.elements(16, 9))
+        table = quadratic_table(prng)
+        yield fit_inputs(prng, (6, 6), table, random_basis(prng, (6, 6)))
+        yield fit_inputs(prng, (6, 4), table, random_basis(prng, (6, 4)))
+    yield fit_inputs(prng, (4, 4), PRESENT_TABLE, HOUSE_BASIS)
+    yield fit_inputs(prng, (4, 4), b"\x0f" * 16, b"\x0f" * 9)
+    yield fit_inputs(prng, (6, 4), b"\x0f" * 64, b"\x3f" * 38)
+    # One bit changed in a table that fits: none fits any more.
+    for pair in ((6, 6), (6, 4)):
+        basis = random_basis(prng, pair)
+        table = table_from(prng, pair, basis)
+        for x in (0, 31, 63):
+            yield fit_inputs(prng, pair, put(table, x, table[x] ^ 1 << pair[1] - 1), basis)
+
+
+def low_bits_alone(prng):
+    """Tables that fit in their low four bits over q1, q2, and not in six: filled with zeros
+    they take a third q, and with other upper bits that does not help either."""
+    for _ in range(4):
+        basis = random_basis(prng, (6, 4))
+        table = table_from(prng, (6, 4), basis)
+        upper = bytes(16 * prng.below(4) for _ in table)
+        filled = bytes(low ^ high for low, high in zip(table, upper))
+        third = prng.elements(64, 19)
+        yield fit_inputs(prng, (6, 4), table, basis)
+        yield fit_inputs(prng, (6, 6), table, basis + bytes(19))
+        yield fit_inputs(prng, (6, 6), table, basis + third)
+        yield fit_inputs(prng, (6, 6), filled, basis + third)
+
+
+def des_fits(prng):
+    """No basis reaches a table of DES, in four bits or in six."""
+    for table in des.TABLES:
+        for basis in (bytes(38), basis_of((6, 4), [1, 3], [11]), random_basis(prng, (6, 4))):
+            yield fit_inputs(prng, (6, 4), table, basis)
+        yield fit_inputs(prng, (6, 6), table, random_basis(prng, (6, 6)))
+
+
+def fit_wrong_pairs(good):
+    """1 and 9, with slices that would do, and with more that is wrong."""
+    pair, slices = good[:2], good[2:]
+    for wrong in WRONG_WIDTHS:
+        yield wrong, pair[1], *slices
+    for wrong in WRONG_BITS:
+        yield pair[0], wrong, *slices
+    for other in ((4, 4), (4, 6), (6, 4), (6, 6)):
+        yield *other, *slices
+    none = (b"\xff", b"", b"\x01", b"\xff")
+    yield 5, 5, *slices  # 1 before 9
+    yield 10, 4, *none
+    yield 5, pair[1], *none  # 1 before 2 and 3
+    yield 5, 0, *none
+    yield pair[0], 5, *none  # 9 before 2 and 3
+    yield pair[0], 5, b"\xff" + slices[0][1:], *slices[1:]
+
+
+def fit_wrong_lengths(prng, good):
+    pair = good[:2]
+    for place in (2, 3, 5):
+        length = len(good[place])
+        for n in [*one_off(length), 0, 1, 2 * length]:
+            yield change_length(prng, good, place, n, 2 ** pair[1])
+    for n in sorted({34, 140, 102, 33, 139} - {len(good[5])}):
+        yield change_length(prng, good, 5, n)
+    for n in sorted({9, 57, 38} - {len(good[3])}):
+        yield change_length(prng, good, 3, n, 2 ** pair[0])
+    right = WORK_LENGTH[pair]
+    # The work of the other pairs, and what a fit could do with.
+    for n in sorted({0, 1, right - 1, right + 1, *WORK_LENGTH.values(), 304, 4928} - {right}):
+        yield *good[:4], b"\x77" * n, good[5]
+    for place in range(2, 6):  # 2 before 3
+        bad = *pair, put(good[2], 0, 255), put(good[3], 0, 255), *good[4:]
+        yield *bad[:place], bad[place][:-1], *bad[place + 1 :]
+
+
+def fit_wrong_entries(prng, good):
+    """Entries too large through the table and then the basis, each with its own limit."""
+    pair = good[:2]
+    size = 2 ** pair[0]
+    limits = [2 ** pair[1]] * size + [2 ** pair[0]] * basis_length(pair)
+    entries = good[2] + good[3]
+    step = 1 if pair[0] == 4 else 7
+    places = [*range(0, len(entries), step), size - 1, size, len(entries) - 1]
+    for k, place in enumerate(places):
+        limit = limits[place]
+        bad = put(entries, place, (limit, 255, large(prng, limit))[k % 3])
+        yield fit_inputs(prng, pair, bad[:size], bad[size:])
+        fine = put(entries, place, limit - 1)
+        if k % 4 == 0:
+            yield fit_inputs(prng, pair, fine[:size], fine[size:])
+    for _ in range(6):
+        bad = entries
+        for _ in range(2):
+            place = prng.below(len(bad))
+            bad = put(bad, place, large(prng, limits[place]))
+        yield fit_inputs(prng, pair, bad[:size], bad[size:])
+    unit = put(bytes(size), 0, 1)  # 3 before 4
+    yield fit_inputs(prng, pair, put(unit, size - 1, limits[0]), bytes(basis_length(pair)))
 
 
 def fit_cases():
     prng = Prng(103)
     yield from fit_solvable_and_none(prng)
-
-    for width in WIDTHS:
-        good = fit_inputs(
-            prng, width, bytes(2**width), prng.elements(2**width, basis_length(width))
-        )
-        for wrong in WRONG_WIDTHS:
-            yield (wrong, *good[1:])
-        yield (10 - width, *good[1:])
-        yield (5, b"\xff", b"", b"\x01", b"\xff")  # 1 before 2 and 3
-        for place in (1, 2, 4):
-            length = len(good[place])
-            for n in [*one_off(length), 0, 1, 2 * length]:
-                yield change_length(prng, good, place, n, 2**width)
-        for n in (0, 1, WORK_LENGTH[width] - 1, WORK_LENGTH[width] + 1, WORK_LENGTH[10 - width]):
-            yield (*good[:3], b"\x77" * n, good[4])
-        for n in (304, 4928):  # other sizes that a fit could do with
-            yield (*good[:3], b"\x01" * n, good[4])
-        for place in range(1, 5):  # 2 before 3
-            bad = (width, put(good[1], 0, 255), put(good[2], 0, 255), *good[3:])
-            yield (*bad[:place], bad[place][:-1], *bad[place + 1 :])
-
-        step = 1 if width == 4 else 7
-        entries = good[1] + good[2]
-        places = [*range(0, len(entries), step), 2**width - 1, 2**width, len(entries) - 1]
-        for k, place in enumerate(places):
-            bad = put(entries, place, (2**width, 255, large(prng, 2**width))[k % 3])
-            yield fit_inputs(prng, width, bad[: 2**width], bad[2**width :])
-        for _ in range(6):
-            bad = entries
-            for _ in range(2):
-                bad = put(bad, prng.below(len(bad)), large(prng, 2**width))
-            yield fit_inputs(prng, width, bad[: 2**width], bad[2**width :])
-    # 3 before 4
-    yield fit_inputs(prng, 4, put(put(bytes(16), 0, 1), 15, 16), bytes(9))
+    yield from low_bits_alone(prng)
+    yield from des_fits(prng)
+    for pair in PAIRS:
+        good = fit_inputs(prng, pair, bytes(2 ** pair[0]), random_basis(prng, pair))
+        yield from fit_wrong_pairs(good)
+        yield from fit_wrong_lengths(prng, good)
+        yield from fit_wrong_entries(prng, good)
 
 
 def house_fit_inputs(prng, table):
-    return bytes(table), bytes([1 + prng.below(255)]) * 448, prng.pattern(33)
+    return bytes(table), bytes([1 + prng.below(255)]) * 448, prng.pattern(34)
 
 
 def house_fit_cases():
@@ -458,10 +614,10 @@ def house_fit_cases():
     for n in (0, 1, 15, 17, 25, 64):
         yield change_length(prng, good, 0, n, 16)
         yield (put(resize(prng, good[0], n, 16), 0, 255), *good[1:])  # 2 before 3
-    for n in (0, 1, 304, 447, 449, 6144):
+    for n in (0, 1, 304, 447, 449, 6144, 11008):
         yield good[0], b"\x5a" * n, good[2]
         yield put(good[0], 3, 255), b"\x5a" * n, good[2]
-    for n in (0, 1, 32, 34, 139):
+    for n in (0, 1, 32, 33, 35, 102, 140):
         yield change_length(prng, good, 2, n)
         yield change_length(prng, (put(good[0], 0, 16), *good[1:]), 2, n)
 
@@ -469,32 +625,27 @@ def house_fit_cases():
 # ----------------------------------------------------------- S-box, its watch
 
 
-def random_limit(width):
-    """Random bytes are below this: at width 4 each holds two elements, whatever it is."""
-    return 256 if width == 4 else 2**width
-
-
 def sbox_inputs(prng, record, s):
     """Record, s, shares, random: all that the S-box and its watch have in common."""
     width = record[5]
-    random = prng.elements(random_limit(width), sbox_random(width, s))
+    random = prng.elements(random_limit(width), sbox_random(pair_of(record), s))
     return record, s, prng.elements(2**width, s), random
 
 
 def sbox_special_inputs(prng, record, s):
     """Zeros and largest elements in shares and random."""
-    width = record[5]
-    limit, bound, count = 2**width, random_limit(width), sbox_random(width, s)
+    width, count = record[5], sbox_random(pair_of(record), s)
+    limit, bound = 2**width, random_limit(width)
     yield record, s, bytes(s), bytes(count)
     yield record, s, bytes([limit - 1]) * s, bytes([bound - 1]) * count
     yield record, s, prng.elements(limit, s), bytes(count)
     yield record, s, bytes(s), prng.elements(bound, count)
 
 
-def sbox_wrong_elements(prng, width):
+def sbox_wrong_elements(prng, pair):
     """Elements too large at each place of shares and, at width 6, of random."""
-    limit = 2**width
-    record = random_record(prng, width)
+    width, limit = pair[0], 2 ** pair[0]
+    record = any_version(prng, random_record(prng, pair))
     for s in (1, 2, 3, 9):
         good = sbox_inputs(prng, record, s)
         entries, rest = (good[2], good[3]) if width == 4 else (good[2] + good[3], b"")
@@ -518,49 +669,67 @@ def sbox_wrong_counts(prng, record):
         yield (record, s, *sbox_inputs(prng, record, fitting)[2:])
 
 
-def sbox_cases():
-    prng = Prng(105)
-    house = house_record(PRESENT_TABLE)
+def sbox_valid(prng):
     for s in SHARE_COUNTS:
-        for width in WIDTHS:
+        for pair in PAIRS:
             for _ in range(5):
-                yield (*sbox_inputs(prng, random_record(prng, width), s), prng.pattern(s))
-            for inputs in sbox_special_inputs(prng, random_record(prng, width), s):
-                yield (*inputs, prng.pattern(s))
-            yield (*sbox_inputs(prng, full_record(width), s), prng.pattern(s))
-        yield (*sbox_inputs(prng, zero_record(4), s), prng.pattern(s))
+                yield sbox_inputs(prng, any_version(prng, random_record(prng, pair)), s)
+            yield from sbox_special_inputs(prng, random_record(prng, pair), s)
+            yield sbox_inputs(prng, any_version(prng, full_record(pair)), s)
+        yield sbox_inputs(prng, zero_record((4, 4)), s)
         for record in present_records(prng)[-3:]:
-            yield (*sbox_inputs(prng, record, s), prng.pattern(s))
+            yield sbox_inputs(prng, record, s)
+    house = house_record(PRESENT_TABLE)
     for x in range(16):
         masks = prng.elements(16, 2)
-        shares = bytes([x ^ masks[0] ^ masks[1]]) + masks
-        yield house, 3, shares, prng.bytes(3), prng.pattern(3)
+        yield house, 3, bytes([x ^ masks[0] ^ masks[1]]) + masks, prng.bytes(3)
+    # The versions of one record give the same.
+    for pair in ((4, 4), (6, 6)):
+        for s in (1, 2, 5):
+            record, *rest = sbox_inputs(prng, random_record(prng, pair), s)
+            yield record, *rest
+            yield in_version(record, 1), *rest
 
-    for width in WIDTHS:
-        limit = 2**width
-        record = random_record(prng, width)
+
+def sbox_wrong_lengths(prng, record):
+    """Lengths one off and those of other pairs, and of one element a byte."""
+    pair, limit = pair_of(record), 2 ** record[5]
+    for s in SHARE_COUNTS:
+        good = (*sbox_inputs(prng, record, s), prng.pattern(s))
+        for place in (2, 3, 4):
+            for n in one_off(len(good[place])):
+                yield change_length(prng, good, place, n, limit)
+        for n in sorted({sbox_random(other, s) for other in PAIRS} | {s * (s - 1)}):
+            if n != sbox_random(pair, s):
+                yield change_length(prng, good, 3, n, limit)
+    for n in (0, 2, 6, 8, 64, 192):
+        yield (*sbox_inputs(prng, record, 3), prng.pattern(n))
+
+
+def sbox_cases():
+    prng = Prng(105)
+    for inputs in sbox_valid(prng):
+        yield (*inputs, prng.pattern(inputs[1]))
+
+    for layout in LAYOUTS:
+        record = random_record(prng, *layout)
         good = (*sbox_inputs(prng, record, 3), prng.pattern(3))
         for damaged in refused_records(prng, record):
             yield (damaged, *good[1:])
         yield record[:-1], 0, b"\xff", b"\xff", b"\x01"  # Read's before 7, 2, 3
+        yield put(record, 5, 5), 0, b"\xff", b"\xff", b"\x01"
+        yield put(record, len(record) - 1, 255), 0, b"\xff", b"\xff", b"\x01"
+        yield record, 0, b"\xff", b"\xff", b"\x01"  # 7 before 2 and 3
+    for pair in PAIRS:
+        record = any_version(prng, random_record(prng, pair))
         for inputs in sbox_wrong_counts(prng, record):
             yield (*inputs, prng.pattern(len(inputs[2])))
-        yield record, 0, b"\xff", b"\xff", b"\x01"  # 7 before 2 and 3
-        for s in SHARE_COUNTS:
-            good = (*sbox_inputs(prng, record, s), prng.pattern(s))
-            for place in (2, 3, 4):
-                for n in one_off(len(good[place])):
-                    yield change_length(prng, good, place, n, limit)
-            # lengths of the other width, and of one element a byte
-            yield change_length(prng, good, 3, sbox_random(10 - width, s) + (s == 1), limit)
-            if width == 4 and s > 1:
-                yield change_length(prng, good, 3, s * (s - 1), limit)
-        for n in (0, 2, 6, 8, 64, 192):
-            yield (*sbox_inputs(prng, record, 3), prng.pattern(n))
-        bad = (record, 3, b"\xff" * 3, b"\xff" * sbox_random(width, 3), prng.pattern(3))
+        yield from sbox_wrong_lengths(prng, record)
+        random = b"\xff" * sbox_random(pair, 3)
+        bad = (record, 3, b"\xff" * 3, random, prng.pattern(3))
         for place in (2, 3, 4):  # 2 before 3
             yield (*bad[:place], bad[place][:-1], *bad[place + 1 :])
-        for inputs in sbox_wrong_elements(prng, width):
+        for inputs in sbox_wrong_elements(prng, pair):
             yield (*inputs, prng.pattern(inputs[1]))
 
 
@@ -607,48 +776,58 @@ def watch_wrong_lengths():
 def sbox_watch_cases():
     prng = Prng(106)
     # Every step of the S-box, at all share counts at width 4.
-    whole = [(4, s) for s in SHARE_COUNTS] + [(6, 1), (6, 2), (6, 3)]
-    for width, s in whole:
-        inputs = sbox_inputs(prng, random_record(prng, width), s)
-        for steps in windows(0, sbox_steps(width, s)):
+    whole = [((4, 4), s) for s in SHARE_COUNTS]
+    whole += [(pair, s) for pair in ((6, 6), (6, 4)) for s in (1, 2, 3)]
+    for pair, s in whole:
+        inputs = sbox_inputs(prng, any_version(prng, random_record(prng, pair)), s)
+        for steps in windows(0, sbox_steps(pair, s)):
             yield (*inputs, steps, prng.pattern(len(steps)))
-    for width in WIDTHS:
+    for pair in PAIRS:
         for s in SHARE_COUNTS:
-            total = sbox_steps(width, s)
-            inputs = sbox_inputs(prng, random_record(prng, width), s)
+            total = sbox_steps(pair, s)
+            inputs = sbox_inputs(prng, any_version(prng, random_record(prng, pair)), s)
             for steps in odd_lists(prng, total):
                 yield (*inputs, steps, prng.pattern(len(steps)))
-            for inputs in sbox_special_inputs(prng, random_record(prng, width), s):
+            for inputs in sbox_special_inputs(prng, random_record(prng, pair), s):
                 steps = [prng.below(total) for _ in range(16)]
                 yield (*inputs, steps, prng.pattern(16))
             yield (*inputs, [total], prng.pattern(1))
 
-    for width in WIDTHS:
-        limit = 2**width
-        record = random_record(prng, width)
-        total = sbox_steps(width, 3)
-        good = (*sbox_inputs(prng, record, 3), [9, total - 1, 0], prng.pattern(3))
+    for layout in LAYOUTS:
+        record = random_record(prng, *layout)
+        good = (*sbox_inputs(prng, record, 3), [9, 200, 0], prng.pattern(3))
         for damaged in refused_records(prng, record):
             yield (damaged, *good[1:])
         yield record[:-1], 0, b"\xff", b"\xff", [2**32 - 1], b""
-        for inputs in sbox_wrong_counts(prng, record):
-            yield (*inputs, [0, 1], prng.pattern(2))
+        yield put(record, 5, 5), 0, b"\xff", b"\xff", [2**32 - 1], b""
+        yield put(record, len(record) - 1, 255), 0, b"\xff", b"\xff", [2**32 - 1], b""
         yield record, 10, b"\xff", b"\xff", [2**32 - 1], b""
-        for s in SHARE_COUNTS:
-            base = (*sbox_inputs(prng, record, s), [5, 4], prng.pattern(2))
-            for place in (2, 3):
-                for n in one_off(len(base[place])):
-                    yield change_length(prng, base, place, n, limit)
-        for listed, lent in watch_wrong_lengths():
-            steps = [prng.below(total) for _ in range(listed)]
-            yield (*good[:4], steps, prng.pattern(lent))
-        yield (*good[:4], [total] * 65, prng.pattern(65))  # 2 before 8
-        yield (record, 3, b"\xff" * 3, good[3], [1], b"")  # 2 before 3
-        yield (record, 3, b"\xff" * 3, good[3], [total], b"\x01")  # 3 before 8
-        for inputs in sbox_wrong_elements(prng, width):
-            yield (*inputs, [0, 0, 8], prng.pattern(3))
-        for steps in late_lists(prng, total):
-            yield (*good[:4], steps, prng.pattern(len(steps)))
+    for pair in PAIRS:
+        yield from sbox_watch_refused(prng, any_version(prng, random_record(prng, pair)))
+
+
+def sbox_watch_refused(prng, record):
+    """Refused for what is not the record."""
+    pair, limit = pair_of(record), 2 ** record[5]
+    total = sbox_steps(pair, 3)
+    for inputs in sbox_wrong_counts(prng, record):
+        yield (*inputs, [0, 1], prng.pattern(2))
+    for s in SHARE_COUNTS:
+        base = (*sbox_inputs(prng, record, s), [5, 4], prng.pattern(2))
+        for place in (2, 3):
+            for n in one_off(len(base[place])):
+                yield change_length(prng, base, place, n, limit)
+    good = sbox_inputs(prng, record, 3)
+    for listed, lent in watch_wrong_lengths():
+        steps = [prng.below(total) for _ in range(listed)]
+        yield (*good, steps, prng.pattern(lent))
+    yield (*good, [total] * 65, prng.pattern(65))  # 2 before 8
+    yield (record, 3, b"\xff" * 3, good[3], [1], b"")  # 2 before 3
+    yield (record, 3, b"\xff" * 3, good[3], [total], b"\x01")  # 3 before 8
+    for inputs in sbox_wrong_elements(prng, pair):
+        yield (*inputs, [0, 0, 8], prng.pattern(3))
+    for steps in late_lists(prng, total):
+        yield (*good, steps, prng.pattern(len(steps)))
 
 
 # ----------------------------------------------------------- Block, its watch
@@ -668,19 +847,23 @@ def block_inputs(prng, record, s, key=None, block=None):
 def block_refused_early(prng, records):
     """Refused before the lengths are tested, so the slices can be short."""
     house = records[0]
-    for damaged in refused_records(prng, house):
-        yield damaged, 1, bytes(10), bytes(8), b""
-    wide = random_record(prng, 6)
-    for damaged in refused_records(prng, wide):
-        yield damaged, 2, b"", b"", b""
-    for record in (wide, zero_record(6), full_record(6)):  # Read's, then 1
-        yield record, 1, bytes(10), bytes(8), b""
-        yield record, 0, b"", b"", b"\xff"
+    for version in (1, 2):
+        for damaged in refused_records(prng, in_version(house, version)):
+            yield damaged, 1, bytes(10), bytes(8), b""
+    for pair, version in LAYOUTS:
+        if pair[0] == 6:
+            wide = random_record(prng, pair, version)
+            for damaged in refused_records(prng, wide):
+                yield damaged, 2, b"", b"", b""
+            # Read's, then 1
+            for record in (wide, zero_record(pair, version), full_record(pair, version)):
+                yield record, 1, bytes(10), bytes(8), b""
+                yield record, 0, b"", b"", b"\xff"
     for record in almost_present_records():
         yield record, 1, prng.bytes(10), prng.bytes(8), b""
     for place in coefficient_places(house):  # another coefficient, still an element
         yield put(house, place, house[place] ^ 1 + prng.below(15)), 1, bytes(10), bytes(8), b""
-    for record in (zero_record(4), full_record(4), random_record(prng, 4)):
+    for record in (zero_record((4, 4)), full_record((4, 4), 1), random_record(prng, (4, 4))):
         yield record, 1, bytes(10), bytes(8), b""
         yield record, 10, b"", b"", b"\xff"  # 6 before 7 and 2
     for s in WRONG_SHARE_COUNTS:
@@ -724,6 +907,14 @@ def block_any_bytes(prng, records):
                 yield house, s, key, block, put(bytes(len(random)), place, byte)
 
 
+def block_versions(prng, records):
+    """One record in both versions, with the same shares and random bytes."""
+    for s in (1, 2, 3):
+        record, *rest = block_inputs(prng, records[s], s)
+        for version in (1, 2):
+            yield in_version(record, version), *rest
+
+
 def block_cases():
     prng = Prng(107)
     records = present_records(prng)
@@ -734,6 +925,8 @@ def block_cases():
         for k in range(count):
             inputs = block_inputs(prng, records[(s + 2 * k) % 9], s)
             yield (*inputs, prng.pattern(8 * s))
+    for inputs in block_versions(prng, records):
+        yield (*inputs, prng.pattern(8 * inputs[1]))
     house = records[0]
     for s in (2, 3):  # zeros and largest elements
         n = block_random(s)
@@ -754,7 +947,7 @@ def block_cases():
 
 def block_parts(s):
     """The number of the first step of each part of a block, in order."""
-    box = sbox_steps(4, s)
+    box = sbox_steps((4, 4), s)
     step = 0
     for _ in range(31):
         for length in (16 * s, *[box] * 16, 16 * s, 20 * s, box, 2):
@@ -810,6 +1003,9 @@ def block_watch_cases():
         inputs = block_inputs(prng, house, s)
         for steps in odd_lists(prng, block_steps(s)):
             yield (*inputs, steps, prng.pattern(len(steps)))
+    for inputs in block_versions(prng, records):
+        steps = landmarks(Prng(0), inputs[1])
+        yield (*inputs, steps, prng.pattern(len(steps)))
     three = block_inputs(prng, house, 3)
     yield (*three, [117196], prng.pattern(1))
     yield (*three, [117197], prng.pattern(1))

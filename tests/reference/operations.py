@@ -16,7 +16,15 @@ from answers import (
     share_count_wrong,
     too_large,
 )
-from decomposition import check, first_difference, fit, house_fit, read, record_wrong
+from decomposition import (
+    check,
+    first_difference,
+    fit,
+    house_fit,
+    pair_of,
+    read,
+    record_wrong,
+)
 from present import SBOX
 from steps import (
     Trace,
@@ -35,9 +43,9 @@ LONGEST_VALUE = 16
 # ---------------------------------------------------------------------- S-box
 
 
-def tested_random(width, random):
-    """The bytes that may be too large: at width 4 none, as any two nibbles are elements."""
-    return [] if width == 4 else [random]
+def random_limit(width):
+    """Random bytes are below this: at width 4 all are, as any two nibbles are elements."""
+    return 256 if width == 4 else 2**width
 
 
 def sbox_wrong(record, s, shares, random, more_lengths):
@@ -45,9 +53,9 @@ def sbox_wrong(record, s, shares, random, more_lengths):
     return (
         record_wrong(record)
         or share_count_wrong(s)
-        or lengths_differ((shares, s), (random, sbox_random(record[5], s)))
+        or lengths_differ((shares, s), (random, sbox_random(pair_of(record), s)))
         or more_lengths()
-        or too_large(2 ** record[5], shares, *tested_random(record[5], random))
+        or too_large((shares, 2 ** record[5]), (random, random_limit(record[5])))
     )
 
 
@@ -63,7 +71,7 @@ def sbox(record, s, shares, random, out):
 def sbox_watch(record, s, shares, random, steps, values):
     refusal = sbox_wrong(
         record, s, shares, random, lambda: list_wrong(steps, values)
-    ) or no_such_step(steps, sbox_steps(record[5], s))
+    ) or no_such_step(steps, sbox_steps(pair_of(record), s))
     if refusal:
         return refused(refusal, [values])
     trace = Trace(record[5], random)

@@ -7,7 +7,9 @@ import sys
 from collections import Counter
 
 import aes
+import des
 import field
+import over_elements
 import present
 from aes_steps import (
     aes_random,
@@ -22,16 +24,37 @@ from aes_steps import (
 from casefile import decode_file, encode_file
 from cases import (
     INPUTS,
+    LAYOUTS,
+    PAIRS,
     PRESENT_TABLE,
     aes_parts,
     block_parts,
     house_record,
+    in_version,
+    low_bits_alone,
+    p_length,
+    random_basis,
     random_record,
     sharing,
-    table_of,
     twin_record,
+    zero_record,
 )
-from decomposition import HOUSE_BASIS, columns, pack_record, solve, unpack_record
+from decomposition import (
+    HEAD_LENGTH,
+    HOUSE_BASIS,
+    PARTS,
+    RECORD_LENGTH,
+    WORK_LENGTH,
+    basis_length,
+    columns,
+    form_at,
+    head_length,
+    pack_record,
+    packed,
+    solve,
+    table_of,
+    unpack_record,
+)
 from field import EXPONENTS, PRODUCT, evaluate, power, product
 from operations import (
     aes_block,
@@ -120,12 +143,12 @@ def test_checks_on_paper():
     same("(g)", present.bit_target(62), 47)
     same("(h)", present.update_key(0, 1), 0xC0000000000000008000)
     same("(i)", evaluate(4, HOUSE_BASIS, 2), 9)
-    for n, expected in ((4, 213), (6, 930)):
-        trace = Trace(n, bytes(sbox_random(n, 3)))
-        masked_sbox(trace, random_record(Prng(1), n), [1, 2, 3])
-        same("(j)", (len(trace.values), sbox_steps(n, 3)), (expected, expected))
-    answer = house_fit(bytes(16), b"\x01" * 448, b"\x01" * 33)
-    expected = b"DCP\x00\x01\x04" + HOUSE_BASIS + bytes(18)
+    for pair, expected in (((4, 4), 213), ((6, 6), 930)):
+        trace = Trace(pair[0], bytes(sbox_random(pair, 3)))
+        masked_sbox(trace, random_record(Prng(1), pair), [1, 2, 3])
+        same("(j)", (len(trace.values), sbox_steps(pair, 3)), (expected, expected))
+    answer = house_fit(bytes(16), b"\x01" * 448, b"\x01" * 34)
+    expected = b"DCP\x00\x02\x04\x04" + HOUSE_BASIS + bytes(18)
     same("(k)", answer, (0, (), (bytes(448), expected)))
     same("(l)", split(b"\x07", 3, b"\x01\x02", b"\xee" * 3), (0, (), (b"\x04\x01\x02",)))
 
@@ -160,33 +183,104 @@ def test_edges():
     same("no step", block_watch(*inputs, [117196, 117197], b"\xee\xee").values, (1,))
     same("no step", block_watch(*inputs, [117197], b"\xee"), (8, (0,), (b"\xee",)))
 
-    work, record = b"\x01" * 448, b"\xee" * 33
-    answer = fit(4, b"\x01" + bytes(15), bytes(9), work, record)
+    work, record = b"\x01" * 448, b"\xee" * 34
+    answer = fit(4, 4, b"\x01" + bytes(15), bytes(9), work, record)
     same("zero basis, 1, 0, 0 ..", answer, (4, (0,), (bytes(448), record)))
-    answer = fit(4, bytes(range(16)), bytes(9), work, record)
+    answer = fit(4, 4, bytes(range(16)), bytes(9), work, record)
     same("zero basis, identity", answer.number, 0)
-    same("zero basis, identity", answer.outputs[1][15:], bytes(10) + b"\x01" + bytes(7))
-    answer = fit(4, b"\x10" + bytes(15), bytes(9), work, record)
+    same("zero basis, identity", answer.outputs[1][16:], bytes(10) + b"\x01" + bytes(7))
+    answer = fit(4, 4, b"\x10" + bytes(15), bytes(9), work, record)
     same("work untouched after 3", answer, (3, (0,), (work, record)))
     answer = check(house, PRESENT_TABLE[:15] + b"\x03")
     same("Check's place", answer, (6, (15,), ()))
 
 
+# -------------------------------------------------------------------- records
+
+
+def test_layouts():
+    """Lengths from the parts, and what Read says of the shortest records."""
+    for pair, version in LAYOUTS:
+        length = HEAD_LENGTH[version] + basis_length(pair) + p_length(pair)
+        same("record length", RECORD_LENGTH[version][pair], length)
+        record = zero_record(pair, version)
+        same("record", (len(record), read(record)), (length, (0, (pair[0],), ())))
+        same("first coefficient", head_length(record), {1: 6, 2: 7}[version])
+        place = head_length(record)
+        bad = record[:place] + b"\xff" + record[place + 1 :]
+        same("its place", read(bad), (3, (place,), ()))
+    same("work, equal widths", [16 * (18 + 1 + 9), 64 * (76 + 1 + 19)], [448, 6144])
+    same("work, (6, 4)", (64 * 4, 3 * 19 * 6, 256 * (342 + 2) // 8), (256, 342, 11008))
+    same("work", WORK_LENGTH, {(4, 4): 448, (6, 6): 6144, (6, 4): 11008})
+
+
+def test_heads():
+    """The tests of Read in their order, on heads written by hand."""
+    for head, number in (
+        ((0, 2, 4), 2),  # six bytes
+        ((0, 2, 5), 1),  # 1 before the 2 of six bytes
+        ((0, 1, 4), 2),
+        ((0, 0, 5), 5),  # 5 before 1
+        ((0, 3, 4), 5),
+        ((2, 0, 4, 4), 5),
+        ((1, 2, 4, 4), 5),
+        ((0, 2, 4, 4), 2),  # seven bytes
+        ((0, 2, 4, 6), 9),  # 9 before 2
+        ((0, 2, 4, 0), 9),
+        ((0, 2, 6, 4), 2),
+        ((0, 2, 6, 6), 2),
+        ((0, 2, 6, 5), 9),
+        ((0, 2, 6, 255), 9),
+        ((0, 2, 5, 5), 1),  # 1 before 9
+        ((0, 1, 4, 9), 2),  # in version 1 that is a coefficient
+    ):
+        same(f"head {head}", read(b"DCP" + bytes(head)), (number, (0,), ()))
+    same("five bytes", read(b"XCP\x00\x02").number, 2)
+
+
+def test_versions():
+    """A record of equal widths means the same in both versions."""
+    prng = Prng(14)
+    for pair in ((4, 4), (6, 6)):
+        record = random_record(prng, pair)
+        old = in_version(record, 1)
+        same("head of version 1", old[:6], b"DCP\x00\x01" + bytes(pair[:1]))
+        same("head of version 2", record[:7], b"DCP\x00\x02" + bytes(pair))
+        same("coefficients", old[6:], record[7:])
+        same("unpacked", unpack_record(old), unpack_record(record))
+        same("table", table_of(old), table_of(record))
+        shares, random = prng.elements(2 ** pair[0], 3), bytes(sbox_random(pair, 3))
+        answers = [sbox(r, 3, shares, random, b"\xee" * 3) for r in (old, record)]
+        same("S-box", answers[0], answers[1])
+        same("S-box done", answers[0].number, 0)
+    house = house_record(PRESENT_TABLE)
+    inputs = 2, prng.bytes(20), prng.bytes(16), prng.bytes(block_random(2)), b"\xee" * 16
+    answers = [block(in_version(house, version), *inputs) for version in (1, 2)]
+    same("block", answers[0], answers[1])
+    for pair in ((6, 6), (6, 4)):
+        same("block, width 6", block(random_record(prng, pair), *inputs).number, 1)
+
+
+def test_low_bits():
+    """Check at (6, 4) looks at four bits, and takes no larger entry."""
+    record = random_record(Prng(15), (6, 4))
+    table = table_of(record)
+    form = bytes(form_at(record, x) for x in range(64))
+    same("low bits", table, bytes(v & 15 for v in form))
+    same("upper bits are there", max(form) > 15, True)
+    same("Check", check(record, table), (0, (), ()))
+    same("entry 16", check(record, table[:9] + b"\x10" + table[10:]), (3, (9,), ()))
+    other = bytes([table[0], table[1] ^ 8]) + table[2:]
+    same("another bit", check(record, other), (6, (1,), ()))
+
+
 # ------------------------------------------------------------------------ fit
 
 
-def bit_vector(width, column):
-    return sum(entry << width * x for x, entry in enumerate(column))
-
-
 class BitSpan:
-    """A span over single bits; a column enters with all its multiples by y^b.
+    """A span over single bits."""
 
-    These multiples span, over bits, what the column spans over the field.
-    """
-
-    def __init__(self, width):
-        self.width = width
+    def __init__(self):
         self.by_top = {}
 
     def rest(self, vector):
@@ -194,46 +288,55 @@ class BitSpan:
             vector ^= self.by_top[vector.bit_length()]
         return vector
 
-    def holds(self, column):
-        return self.rest(bit_vector(self.width, column)) == 0
+    def holds(self, vector):
+        return self.rest(vector) == 0
 
-    def enter(self, column):
-        for bit in range(self.width):
-            row = PRODUCT[self.width][1 << bit]
-            vector = self.rest(bit_vector(self.width, [row[entry] for entry in column]))
-            if vector:
-                self.by_top[vector.bit_length()] = vector
+    def enter(self, vector):
+        vector = self.rest(vector)
+        if vector:
+            self.by_top[vector.bit_length()] = vector
 
     def rank(self):
-        return len(self.by_top) / self.width
+        return len(self.by_top)
 
 
-def hold_to_definition(width, table, basis):
-    """The answer meets the paper's definition, found over single bits."""
-    span, free = BitSpan(width), []
-    for column in columns(width, basis):
+def bits_of(width, p):
+    """The unknowns in order: bit 0 of the first coefficient first."""
+    return [coefficient >> bit & 1 for coefficient in p for bit in range(width)]
+
+
+def hold_to_definition(pair, table, basis):
+    """The answer meets the definition: its form is the table, free bits are 0, and there is
+    none if no p meets the table. At equal widths it is the answer over field elements."""
+    span, free = BitSpan(), []
+    for column in columns(pair, basis):
         free.append(span.holds(column))
         span.enter(column)
-    p = solve(width, table, basis)
-    same("fits or not", p is not None, span.holds(table))
+    p = solve(pair, table, basis)
+    same("fits or not", p is not None, span.holds(packed(pair[1], table)))
     if p is not None:
-        same("form is the table", table_of(pack_record(width, basis, p)), bytes(table))
-        same("free unknowns", [v for v, is_free in zip(p, free) if is_free and v], [])
+        same("form is the table", table_of(pack_record(pair, basis, p)), bytes(table))
+        pairs = zip(bits_of(pair[0], p), free, strict=True)
+        same("free bits", [bit for bit, is_free in pairs if is_free and bit], [])
+    if pair[0] == pair[1]:
+        same("over elements", over_elements.solve(pair[0], table, basis), p)
     return span.rank()
 
 
 def test_fit():
     prng = Prng(2)
-    same("rank, house basis", hold_to_definition(4, PRESENT_TABLE, HOUSE_BASIS), 16)
-    same("rank, zero basis", hold_to_definition(4, bytes(16), bytes(9)), 9)
+    rank = hold_to_definition((4, 4), PRESENT_TABLE, HOUSE_BASIS)
+    same("rank, house basis", rank, 4 * 16)
+    same("rank, zero basis", hold_to_definition((4, 4), bytes(16), bytes(9)), 4 * 9)
     seen = Counter()
-    for number, (width, table, basis, work, record) in enumerate(INPUTS["fit"]()):
-        answer = fit(width, table, basis, work, record)
+    for number, (*pair, table, basis, work, record) in enumerate(INPUTS["fit"]()):
+        pair = tuple(pair)
+        answer = fit(*pair, table, basis, work, record)
         if answer.number in (0, 4):
-            seen[width, answer.number] += 1
-            if width == 4 or number % 4 == 0:
-                hold_to_definition(width, table, basis)
-    same("solved and unsolved cases", min(seen.values()) > 10 and len(seen), 4)
+            seen[pair, answer.number] += 1
+            if pair == (4, 4) or number % 4 == 0:
+                hold_to_definition(pair, table, basis)
+    same("solved and unsolved cases", min(seen.values()) > 10 and len(seen), 6)
     for _ in range(50):
         table = prng.elements(16, 16)
         same("house fit", check(house_record(table), table).number, 0)
@@ -241,33 +344,144 @@ def test_fit():
     same("twin record", check(twin, PRESENT_TABLE).number, 0)
 
 
+def test_fit_over_bits():
+    """Over zero bases at (6, 4): tables of single bits of p3, and which bits are free."""
+    pair, none = (6, 4), bytes(38)
+    same("unknown bits", len(list(columns(pair, none))), 342)
+    record = b"\xee" * 102
+    for place in (0, 7, 18):
+        for bit in range(6):
+            p = bytes(38 + place) + bytes([1 << bit]) + bytes(18 - place)
+            table = table_of(pack_record(pair, none, p))
+            answer = fit(6, 4, table, none, b"\x01" * 11008, record)
+            same("fits", (answer.number, answer.outputs[0]), (0, bytes(11008)))
+            same("head", answer.outputs[1][:7], b"DCP\x00\x02\x06\x04")
+            same("meets the table", check(answer.outputs[1], table).number, 0)
+    # Bits 4 and 5 of the constant do not show in the low four bits: they are free.
+    same("constant", solve(pair, b"\x0f" * 64, none), bytes(38) + b"\x0f" + bytes(18))
+    # 1, 0, 0 .. has no p over zero bases; the low bits of the identity have one.
+    answer = fit(6, 4, b"\x01" + bytes(63), none, b"\x01" * 11008, record)
+    same("zero basis", answer, (4, (0,), (bytes(11008), record)))
+    identity = bytes(x % 16 for x in range(64))
+    same("zero basis, identity", fit(6, 4, identity, none, b"\x01" * 11008, record).number, 0)
+
+
+def test_low_bits_alone():
+    """Tables that fit in four bits over q1, q2. Filled with zeros they do not fit in six
+    over the same two, but do with a third q; filled with other bits not even then."""
+    seen = []
+    for *pair, table, basis, _, _ in low_bits_alone(Prng(16)):
+        seen.append(solve(tuple(pair), table, basis) is not None)
+    same("in four bits and in six", seen, 4 * [True, False, True, False])
+
+
+# --------------------------------------------------- DES, and what lists reach
+
+
+def differing_bits(a, b):
+    return bin(a ^ b).count("1")
+
+
+def test_des_tables():
+    """Rows, and what the designers published of the tables (Coppersmith 1994)."""
+    same("tables", (len(des.TABLES), {len(table) for table in des.TABLES}), (8, {64}))
+    for rows, table in zip(des.ROWS, des.TABLES):
+        for row in rows:
+            same("a row is a permutation", sorted(row), list(range(16)))
+        # Bits 5 and 0 name the row, bits 4 to 1 the column.
+        same("row 1, column 2", table[0b000101], rows[1][2])
+        same("row 2, column 15", table[0b111110], rows[2][15])
+        for x in range(64):
+            for change in (1, 2, 4, 8, 16, 32, 0b001100):
+                same("two bits change", differing_bits(table[x], table[x ^ change]) >= 2, True)
+            for change in (0b110000, 0b110100, 0b111000, 0b111100):
+                same("the value changes", table[x] != table[x ^ change], True)
+    same("S1 at 011011", des.TABLES[0][0b011011], 0b0101)  # the standard's own example
+
+
+def sums_of_two(exponents):
+    """The exponents of products of two listed powers; 63 and 0 differ at element 0."""
+    sums = {a + b for a in exponents for b in exponents}
+    return {total and (total - 1) % 63 + 1 for total in sums}
+
+
+def reach(exponents, bits):
+    """How many of the 64 * bits output bits products of two listed powers span."""
+    span = BitSpan()
+    for exponent in sums_of_two(exponents):
+        values = [power(6, x, exponent) for x in range(64)]
+        for bit in range(6):
+            span.enter(packed(bits, [PRODUCT[6][v][1 << bit] % 2**bits for v in values]))
+    return span.rank()
+
+
+def test_reach():
+    """Classes of 1, 3, 11: 61 of 64 dimensions and 244 of 256 bits. With 7 for 11 all."""
+    listed = EXPONENTS[6]
+    with_7 = listed[:13] + (7, 14, 28, 56, 49, 35)
+    same("not reached", set(range(64)) - sums_of_two(listed), {21, 42, 63})
+    same("reach", (reach(listed, 6), reach(listed, 4)), (6 * 61, 244))
+    same("reach with 7", (reach(with_7, 6), reach(with_7, 4)), (6 * 64, 256))
+
+
+def test_des_not_reached():
+    """Over 0 and the x with x^21 = y^21 each form adds up to 0, and no table of DES does."""
+    prng = Prng(17)
+    chosen = [x for x in range(64) if x == 0 or power(6, x, 21) == power(6, 2, 21)]
+    same("chosen", len(chosen), 22)
+    for a in EXPONENTS[6]:
+        for b in EXPONENTS[6]:
+            terms = [product(6, power(6, x, a), power(6, x, b)) for x in chosen]
+            same("product of listed powers", add_up(terms), 0)
+    for pair in ((6, 6), (6, 4)):
+        record = random_record(prng, pair)
+        same("form", add_up(form_at(record, x) for x in chosen), 0)
+    sums = [add_up(table[x] for x in chosen) for table in des.TABLES]
+    same("tables of DES", sums, [12, 5, 1, 6, 2, 4, 10, 13])
+    for table in des.TABLES:
+        for pair in ((6, 6), (6, 4)):
+            same("no p", solve(pair, table, random_basis(prng, pair)), None)
+
+
 # ---------------------------------------------------------- steps and totals
 
 
 def test_sbox():
-    """All inputs, all share counts, both widths: value and counts."""
+    """All inputs, all share counts, all pairs: value, the upper bits too, and counts."""
     prng = Prng(3)
-    for n in (4, 6):
-        record = random_record(prng, n)
-        table = table_of(record)
+    for pair in PAIRS:
+        n = pair[0]
+        record = random_record(prng, pair)
+        form = [form_at(record, x) for x in range(2**n)]
         for s in SHARE_COUNTS:
-            counts = {4: 2, 6: 5}[n], sbox_random(n, s), sbox_steps(n, s)
+            counts = PARTS[pair] + n // 2 - 2, sbox_random(pair, s), sbox_steps(pair, s)
             for x in range(2**n):
                 masks = prng.elements(2**n, s - 1)
                 shares = bytes([x ^ add_up(masks)]) + masks
-                random = prng.elements(256 if n == 4 else 64, sbox_random(n, s))
+                random = prng.elements(256 if n == 4 else 64, sbox_random(pair, s))
                 answer = sbox(record, s, shares, random, b"\xee" * s)
-                same("S-box joined", add_up(answer.outputs[0]), table[x])
+                same("S-box joined", add_up(answer.outputs[0]), form[x])
                 same("S-box counts", answer.values, counts)
+
+
+def test_sbox_figures():
+    """At (6, 4): four products, 2 s(s-1) random elements, 201 s + 14 s(s-1) steps."""
+    pair = 6, 4
+    for s in SHARE_COUNTS:
+        trace = Trace(6, bytes(2 * s * (s - 1)))
+        masked_sbox(trace, random_record(Prng(18), pair), [1] * s)
+        figures = 4, 2 * s * (s - 1), 201 * s + 14 * s * (s - 1)
+        same("figures at (6, 4)", trace.counts(), figures)
+        same("figures at (6, 4)", (sbox_random(pair, s), sbox_steps(pair, s)), figures[1:])
 
 
 def test_step_rules():
     """Some steps named by hand, with the shares they touch."""
     prng = Prng(4)
-    record = random_record(prng, 4)
-    x, packed = [3, 14, 8], prng.bytes(3)
-    random = [packed[0] >> 4, packed[0] & 15]
-    trace = Trace(4, packed)
+    record = random_record(prng, (4, 4))
+    x, drawn = [3, 14, 8], prng.bytes(3)
+    random = [drawn[0] >> 4, drawn[0] & 15]
+    trace = Trace(4, drawn)
     out = masked_sbox(trace, record, x)
     steps = list(zip(trace.values, trace.touched))
     square = [product(4, v, v) for v in x]
@@ -316,7 +530,7 @@ def test_block_totals():
         "3 1054 1581 117197",
         "5 1054 5270 232177",
     ])
-    same("steps of an S-box", sbox_steps(4, 9), 7 * 81 + 50 * 9)
+    same("steps of an S-box", sbox_steps((4, 4), 9), 7 * 81 + 50 * 9)
 
 
 def joined_block(prng, record, s, key, plain):
@@ -636,7 +850,7 @@ def two_share_traces(record, secret):
 
 def test_two_shares():
     """Step 9 shows the secret; the steps of one share alone do not."""
-    record = random_record(Prng(7), 4)
+    record = random_record(Prng(7), (4, 4))
     by_share = {}
     for secret, zeros in ((0, 256), (1, 512), (11, 512)):
         step_9 = 0
@@ -657,11 +871,12 @@ def test_two_shares():
 def test_case_files():
     same("splitmix64", Prng(1234567).word(), 6457827717110365317)
     numbers = {
-        "read": {0, 1, 2, 3, 5},
-        "check": {0, 1, 2, 3, 5, 6},
+        "read": {0, 1, 2, 3, 5, 9},
+        "check": {0, 1, 2, 3, 5, 6, 9},
+        "fit": {0, 1, 2, 3, 4, 9},
         "house_fit": {0, 2, 3},
-        "sbox": {0, 1, 2, 3, 5, 7},
-        "sbox_watch": {0, 1, 2, 3, 5, 7, 8},
+        "sbox": {0, 1, 2, 3, 5, 7, 9},
+        "sbox_watch": {0, 1, 2, 3, 5, 7, 8, 9},
         "aes_block": {0, 2, 7},
         "aes_block_watch": {0, 2, 7, 8},
         "split": {0, 2, 7},
@@ -678,8 +893,18 @@ TESTS = (
     test_fields,
     test_checks_on_paper,
     test_edges,
+    test_layouts,
+    test_heads,
+    test_versions,
+    test_low_bits,
     test_fit,
+    test_fit_over_bits,
+    test_low_bits_alone,
+    test_des_tables,
+    test_reach,
+    test_des_not_reached,
     test_sbox,
+    test_sbox_figures,
     test_step_rules,
     test_block_totals,
     test_block,

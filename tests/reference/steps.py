@@ -48,15 +48,18 @@ class Trace:
 # ----------------------------------------------------------- what a run takes
 
 
-def sbox_random(width, s):
+# Of each pair of width and output bits: masked products, and the steps of one share.
+SBOX_PRODUCTS = {(4, 4): 2, (6, 6): 5, (6, 4): 4}
+SBOX_STEPS_ALONE = {(4, 4): 57, (6, 6): 275, (6, 4): 201}
+
+
+def sbox_random(pair, s):
     """Random bytes of one S-box."""
-    return bytes_for(width, (2 if width == 4 else 5) * s * (s - 1) // 2)
+    return bytes_for(pair[0], SBOX_PRODUCTS[pair] * s * (s - 1) // 2)
 
 
-def sbox_steps(width, s):
-    if width == 4:
-        return 57 * s + 7 * s * (s - 1)
-    return 275 * s + 35 * s * (s - 1) // 2
+def sbox_steps(pair, s):
+    return SBOX_STEPS_ALONE[pair] * s + 7 * SBOX_PRODUCTS[pair] * s * (s - 1) // 2
 
 
 def block_random(s):

@@ -13,10 +13,10 @@ use Rattle.refusal.specs.Watch.{listFits, testSteps}
 use Rattle.steps.specs.Call.{Call, callCounts}
 use Rattle.steps.specs.Call as call
 use Rattle.steps.specs.Operations.{splitLengths, splitOutcome, joinLengths, joinOutcome}
-use Rattle.decomposition.specs.Record.{coefficientsOf, readOutcome, widthOf, marked}
-use Rattle.decomposition.specs.Check.{checkOutcome, checkAt, firstDifference, recordForm}
+use Rattle.decomposition.specs.Record.{coefficientsOf, layoutOf, marked, outputsOf, readOutcome, versionOf, widthOf}
+use Rattle.decomposition.specs.Check.{checkOutcome, checkAt, firstDifference, recordOutput}
 use Rattle.decomposition.specs.Fit.{FitCall, fitLengths, fitOutcome, allTests}
-use Rattle.decomposition.specs.Layout.{head, layout, recordSize, known}
+use Rattle.decomposition.specs.Layout.{head, known, layout, paired, recordSize}
 use Rattle.decomposition.specs.Solution.{solvable}
 use Rattle.sbox.specs.Operations as sbox
 use Rattle.cipher.specs.Operations as cipher
@@ -43,31 +43,36 @@ told-steps total list next t = told-test (leb (length list) (firstLarge total li
 pub read-told : (r : List ℕ) → Told (readOutcome r)
 unfolding readOutcome
 read-told r =
-    let L = layout (widthOf r) in
-    told-test (leb head (length r)) 2 0 _ (omega arith)
+    let L = layoutOf r in
+    let v = versionOf r in
+    told-test (leb 6 (length r)) 2 0 _ (omega arith)
     (told-test (marked r) 5 0 _ (omega arith)
     (told-test (known (widthOf r)) 1 0 _ (omega arith)
-    (told-test (eqb (length r) (recordSize L)) 2 0 _ (omega arith)
-    (told-below (L .inputs) head (coefficientsOf r) (done (L .width ∷ [])) tt))))
+    (told-test (leb (head v) (length r)) 2 0 _ (omega arith)
+    (told-test (paired (widthOf r) (outputsOf r)) 9 0 _ (omega arith)
+    (told-test (eqb (length r) (recordSize v L)) 2 0 _ (omega arith)
+    (told-below (L .inputs) (head v) (coefficientsOf r) (done (L .width ∷ [])) tt))))))
 
 pub check-told : (r table : List ℕ) → Told (checkOutcome r table)
 unfolding checkOutcome
 check-told r table =
-    let L = layout (widthOf r) in
-    let first = firstDifference (recordForm L r) table in
+    let L = layoutOf r in
+    let first = firstDifference (recordOutput L r) table in
     told-then (readOutcome r) (checkAt L r table) (read-told r)
     (told-test (eqb (length table) (L .inputs)) 2 0 _ (omega arith)
-    (told-below (L .inputs) 0 table _
+    (told-below (L .entries) 0 table _
     (told-test (leb (length table) first) 6 first (done []) (omega arith) tt)))
 
-pub fit-told : (n : ℕ) (c : FitCall) → Told (fitOutcome n c)
+pub fit-told : (n m : ℕ) (c : FitCall) → Told (fitOutcome n m c)
 unfolding fitOutcome
-fit-told n c =
-    let L = layout n in
-    told-then (allTests n c) (test (solvable L (c .table) (c .basis)) 4 0 (done []))
+fit-told n m c =
+    let L = layout n m in
+    told-then (allTests n m c) (test (solvable L (c .table) (c .basis)) 4 0 (done []))
     (told-test (known n) 1 0 _ (omega arith)
+    (told-test (paired n m) 9 0 _ (omega arith)
     (told-test (fitLengths L (length (c .table)) (length (c .basis)) (length (c .work)) (length (c .out))) 2 0 _ (omega arith)
-    (told-below (L .inputs) 0 (c .table ++ c .basis) (done []) tt)))
+    (told-below (L .entries) 0 (c .table) _
+    (told-below (L .inputs) (length (c .table)) (c .basis) (done []) tt)))))
     (told-test (solvable L (c .table) (c .basis)) 4 0 (done []) (omega arith) tt)
 
 -- a masked call whose tests are such, and its watch
@@ -85,9 +90,10 @@ sbox-tests-told : (r : List ℕ) (s : ℕ) (shares random : List ℕ) (fits : Bo
 unfolding sbox.callTests sbox.argumentTests
 sbox-tests-told r s shares random fits =
     let n = widthOf r in
-    told-then (readOutcome r) (sbox.argumentTests n s shares random fits) (read-told r)
+    let m = outputsOf r in
+    told-then (readOutcome r) (sbox.argumentTests n m s shares random fits) (read-told r)
     (told-test (oneTo 9 s) 7 0 _ (omega arith)
-    (told-test (sbox.sboxLengths n s (length shares) (length random) fits) 2 0 _ (omega arith)
+    (told-test (sbox.sboxLengths n m s (length shares) (length random) fits) 2 0 _ (omega arith)
     (told-below (2 ^ n) 0 (shares ++ sbox.testedRandom n random) (done (n ∷ [])) tt)))
 
 pub sbox-told : (r : List ℕ) (s : ℕ) (shares random : List ℕ) (out : ℕ) → Told (sbox.sboxOutcome r s shares random out)

@@ -17,10 +17,10 @@ pub said : {outcome report : Outcome} {answer : List ℕ} → report ≡ outcome
 said a e = e ∙ ap words a
 
 -- the same for a fit
-pub reported-fit : {n : ℕ} {c : FitCall} (e : FitEnd) {answer : List ℕ}
-    → e ≡ fitEnd n c
+pub reported-fit : {n m : ℕ} {c : FitCall} (e : FitEnd) {answer : List ℕ}
+    → e ≡ fitEnd n m c
     → answer ≡ words (e .outcome)
-    → ReportedFit n c answer (e .work) (e .out)
+    → ReportedFit n m c answer (e .work) (e .out)
 reported-fit e a w = record {
   answered = w ∙ ap (λ (x : FitEnd). words (x .outcome)) a;
   work-left = ap (λ (x : FitEnd). x .work) a;

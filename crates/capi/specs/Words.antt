@@ -17,11 +17,11 @@ pub record Reported (outcome : Outcome) (new old answer left : List ℕ) : Type 
   pub answered : answer ≡ words outcome
   pub output : left ≡ written outcome new old
 
--- The contract of an exported fit of width n: the words are those of its outcome, and the slices lent for the work and the record hold `work` and `out`.
-pub record ReportedFit (n : ℕ) (c : FitCall) (answer work out : List ℕ) : Type 0 where
-  pub answered : answer ≡ words (fitOutcome n c)
-  pub work-left : work ≡ fitWork n c
-  pub record-left : out ≡ fitRecord n c
+-- The contract of an exported fit of width n with m output bits: the words are those of its outcome, and the slices lent for the work and the record hold `work` and `out`.
+pub record ReportedFit (n m : ℕ) (c : FitCall) (answer work out : List ℕ) : Type 0 where
+  pub answered : answer ≡ words (fitOutcome n m c)
+  pub work-left : work ≡ fitWork n m c
+  pub record-left : out ≡ fitRecord n m c
 
 -- a refusal has a number that is not 0, so that the first word tells it from done
 abbrev pub Told : Outcome → Type 0

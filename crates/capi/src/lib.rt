@@ -58,24 +58,25 @@ pub extern "C" fn ll_check(record: &[u8], table: &[u8], answer: &mut [u64; 4])
 #[no_mangle]
 pub extern "C" fn ll_fit(
     width: u32,
+    bits: u32,
     table: &[u8],
     basis: &[u8],
     work: &mut [u8],
     record: &mut [u8],
     answer: &mut [u64; 4],
 )
-    ensures { λ u. ⌜ ReportedFit width
+    ensures { λ u. ⌜ ReportedFit width bits
         (record { table = now (table .entry); basis = now (basis .entry); work = now (work .entry); out = now («record» .entry) })
         (now (answer .exit)) (now (work .exit)) (now («record» .exit)) ⌝ }
 {
-    let a = decomposition::fit(width, table, basis, work, record);
+    let a = decomposition::fit(width, bits, table, basis, work, record);
     match a {
         FitAnswer::Done => put(answer, 0, 0, 0, 0),
         FitAnswer::Refused { number, place } => { put(answer, number as u64, place as u64, 0, 0) }
     }
 }
 
-// House fit hands nothing back: a fit of width 4 over the house basis.
+// House fit hands nothing back: a fit of width 4 with 4 output bits over the house basis.
 #[no_mangle]
 pub extern "C" fn ll_house_fit(
     table: &[u8],
@@ -83,7 +84,7 @@ pub extern "C" fn ll_house_fit(
     record: &mut [u8],
     answer: &mut [u64; 4],
 )
-    ensures { λ u. ⌜ ReportedFit 4 (houseCall (now (table .entry)) (now (work .entry)) (now («record» .entry)))
+    ensures { λ u. ⌜ ReportedFit 4 4 (houseCall (now (table .entry)) (now (work .entry)) (now («record» .entry)))
         (now (answer .exit)) (now (work .exit)) (now («record» .exit)) ⌝ }
 {
     let a = decomposition::house_fit(table, work, record);

@@ -1,18 +1,27 @@
 -- ANSWERS ALIKE. Two calls of Block, or of Watch block, with the same record, share count, list and slice lengths give the same answer, whatever the
 -- shares and the random elements; and what they hand back are the paper's figures.
-use mathlib.Core.Path.{_≡_, refl}
+use mathlib.Core.Path.{_≡_, refl, sym, ap, ap₂, _∙_}
 use mathlib.Core.Bool.{Bool}
-use mathlib.Core.List.{List}
-use Prim.Native.Nat.{ℕ, _*_}
-use lib.Dec.{eqb}
+use mathlib.Core.List.{List, []}
+use Prim.Native.Nat.{ℕ, _*_, _%_}
+use lib.Dec.{leb, eqb}
+use lib.ListN.{length}
 use Rattle.xor.specs.Sum.{Small}
-use Rattle.refusal.specs.Outcome.{done}
+use Rattle.refusal.specs.Outcome.{Outcome, done, test, andThen}
 use Rattle.steps.specs.Alike.{SameLengths}
-use Rattle.steps.specs.Call.{figuresOf}
+use Rattle.steps.specs.Call.{Call, figuresOf}
 use Rattle.steps.proofs.Call.{counts-taken, HandsBack, call-answers, call-figures}
 use Rattle.steps.proofs.Call as call
-use Rattle.cipher.specs.Figures.{figures}
-use Rattle.cipher.specs.Operations.{blockCall, argumentTests, callTests, blockOutcome, watchOutcome}
+use Rattle.steps.specs.ShareBytes.{sharesOf}
+use Rattle.decomposition.specs.Layout.{layout}
+use Rattle.decomposition.specs.Record.{SameRecord, coefficientsOf, readOutcome, widthOf}
+use Rattle.decomposition.specs.Check.{firstDifference, formIn}
+use Rattle.decomposition.proofs.Theorems.{same-read}
+use Rattle.present.specs.Present.{size80, table}
+use Rattle.present.specs.Masked.{maskedEncrypt}
+use Rattle.cipher.specs.Box.{recordSbox}
+use Rattle.cipher.specs.Figures.{blockSteps, figures}
+use Rattle.cipher.specs.Operations.{blockCall, argumentTests, callProgram, callTests, computesTable, recordTests, blockOutcome, watchOutcome}
 use Rattle.cipher.proofs.Calls.{tests-passed, call-takes}
 
 -- ---- the tests go by the record and lengths
@@ -61,3 +70,25 @@ module _ (r : List ℕ) (s : ℕ) {key key′ block block′ random random′ : 
       call.watch-answers (blockCall r s key block random) (blockCall r s key′ block′ random′) (tests-alike r s h)
       (counts-figures r s key block random (h .key-bytes) (h .block-bytes) (h .random-bytes))
       (counts-figures r s key′ block′ random′ (h .key-bytes′) (h .block-bytes′) (h .random-bytes′)) refl
+
+-- ---- versions
+
+-- records with the same width, output bits and coefficients make the same calls: so Block and its watch answer and write the same with both
+pub same-call : (n : ℕ) (r r′ : List ℕ) → SameRecord n r r′ → (s : ℕ) (key block random : List ℕ)
+    → blockCall r s key block random ≡ blockCall r′ s key block random
+unfolding blockCall callTests recordTests computesTable callProgram
+same-call n r r′ e s key block random =
+    ap₂ (λ (o : Outcome) (k : ℕ). by o k (coefficientsOf r)) (same-read n r r′ e) (e .accepted .named ∙ sym (e .accepted′ .named))
+    ∙ ap (by (readOutcome r′) (widthOf r′)) (e .coefficients)
+  where
+    -- the call by what Read answers, the width and the coefficients
+    by : Outcome → ℕ → List ℕ → Call
+    by o k cs = record {
+      tests = λ fits.
+          let first = firstDifference (λ x. formIn (layout 4 4) cs x % layout 4 4 .entries) table in
+          andThen (andThen o (test (eqb k 4) 1 0 (test (leb (length table) first) 6 0 (done [])))) (argumentTests s key block random fits);
+      program = maskedEncrypt (recordSbox s cs) size80 s (sharesOf 10 s key) (sharesOf 8 s block);
+      width = 4;
+      random = random;
+      total = blockSteps s;
+    }

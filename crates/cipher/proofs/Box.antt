@@ -1,14 +1,14 @@
 -- The masked S-box of a record of PRESENT's table, as the block needs it: it substitutes, and it hides every share.
-use mathlib.Core.Path.{_≡_, subst, _∙_}
+use mathlib.Core.Path.{_≡_, refl, sym, subst, _∙_}
 use mathlib.Core.List.{List}
 use Prim.Native.Nat.{ℕ, _^_, _≤_, _<_}
 use Rattle.xor.proofs.Sum.{join-small}
 use Rattle.field.proofs.Inverses.{field-4}
 use Rattle.steps.proofs.Shape.{shaped-weaken}
-use Rattle.decomposition.specs.Record.{coefficientsOf}
+use Rattle.decomposition.specs.Record.{Accepted, coefficientsOf, outputsOf}
 use Rattle.decomposition.proofs.ReadOutcome.{read-accepted}
-use Rattle.decomposition.proofs.Theorems.{check-computes}
-use Rattle.decomposition.proofs.Sizes.{layout-width}
+use Rattle.decomposition.proofs.Theorems.{check-whole}
+use Rattle.decomposition.proofs.Sizes.{outputs-4}
 use Rattle.sbox.specs.Form.{formOf, AcceptedForm, basisIn, solutionIn}
 use Rattle.sbox.proofs.Shape.{shaped-sbox}
 use Rattle.sbox.proofs.Coupling.{coupled-sbox}
@@ -19,21 +19,28 @@ use Rattle.cipher.specs.Box.{recordSbox}
 use Rattle.cipher.specs.Experiment.{PresentRecord, boxShape}
 
 module _ (r : List ℕ) (accepted : PresentRecord r) (s : ℕ) where
-  coefficients : AcceptedForm 4 (basisIn 4 (coefficientsOf r)) (solutionIn 4 (coefficientsOf r))
-  coefficients = accepted-record 4 r (read-accepted r 4 (accepted .read))
+  record-read : Accepted 4 r
+  record-read = read-accepted r 4 (accepted .read)
+
+  four : outputsOf r ≡ 4
+  four = outputs-4 4 (outputsOf r) (record-read .pair) refl
+
+  coefficients : AcceptedForm 4 4 (basisIn 4 4 (coefficientsOf r)) (solutionIn 4 4 (coefficientsOf r))
+  coefficients = rw four at (accepted-record 4 r record-read)
 
   -- the form is PRESENT's S-box
-  form-substitutes : (x : ℕ) → x < 2 ^ 4 → formOf 4 (basisIn 4 (coefficientsOf r)) (solutionIn 4 (coefficientsOf r)) x ≡ substitute x
+  form-substitutes : (x : ℕ) → x < 2 ^ 4 → formOf 4 (basisIn 4 4 (coefficientsOf r)) (solutionIn 4 4 (coefficientsOf r)) x ≡ substitute x
   unfolding substitute
   form-substitutes x h =
-      let computes = rw (read-accepted r 4 (accepted .read) .named) at (check-computes r table (accepted .checked)) in
-      record-form 4 (coefficientsOf r) x ∙ computes .equal x (rw (layout-width 4) h)
+      let named = record-read .named in
+      record-form 4 4 (coefficientsOf r) x
+      ∙ rw (named, four) at (check-whole r table (accepted .checked) (four ∙ sym named) x (rw named h))
 
   pub substitutes : 0 < s → s ≤ 9 → Substitutes substitute s (boxShape s) (recordSbox s (coefficientsOf r))
   unfolding boxShape
   substitutes some nine x a h =
       let small : x < 2 ^ 4 = subst (λ (v : ℕ). v < 2 ^ 4) (h .joins) (join-small 4 a (h .small)) in
-      let shaped = rw (coefficients .size) at (shaped-sbox (coefficients .width) s x (basisIn 4 (coefficientsOf r)) (solutionIn 4 (coefficientsOf r)) a some nine (coefficients .coefficients) h) in
+      let shaped = rw (coefficients .size) at (shaped-sbox (coefficients .pair .width) s x (basisIn 4 4 (coefficientsOf r)) (solutionIn 4 4 (coefficientsOf r)) a some nine (coefficients .coefficients) h) in
       shaped-weaken shaped (λ c g. rw (form-substitutes x small) at (g .1))
 
   pub hides : (u : ℕ) → Hides u (recordSbox s (coefficientsOf r))

@@ -24,9 +24,10 @@ use Rattle.steps.proofs.Tape.{elements-nibbles}
 use Rattle.steps.proofs.Call as call
 use Rattle.steps.proofs.Fill.{tabulate-same}
 use Rattle.decomposition.specs.Layout.{layout, sized, recordSize}
-use Rattle.decomposition.specs.Record.{coefficientsOf, widthOf, readOutcome, Accepted}
-use Rattle.decomposition.specs.Check.{recordForm, firstDifference, checkOutcome}
+use Rattle.decomposition.specs.Record.{coefficientsOf, versionOf, widthOf, outputsOf, readOutcome, Accepted}
+use Rattle.decomposition.specs.Check.{recordOutput, firstDifference, checkOutcome}
 use Rattle.decomposition.proofs.ReadOutcome.{read-values, read-accepted}
+use Rattle.decomposition.proofs.Sizes.{outputs-4}
 use Rattle.sbox.proofs.Record.{accepted-record}
 use Rattle.sbox.proofs.Runs.{result-sharing, result-places}
 use Rattle.present.specs.Present.{table}
@@ -70,9 +71,9 @@ block-full s =
 
 -- Check answers by the test, where Read accepts the record
 pub check-tests : (r : List ℕ) → readOutcome r ≡ done (4 ∷ [])
-    → checkOutcome r table ≡ test (computesTable r) 6 (firstDifference (recordForm (layout 4) r) table) (done [])
+    → checkOutcome r table ≡ test (computesTable r) 6 (firstDifference (recordOutput (layout 4 4) r) table) (done [])
 unfolding checkOutcome computesTable layout sized table firstLarge
-check-tests r e = rw (e, read-accepted r 4 e .named)
+check-tests r e = let a = read-accepted r 4 e in rw (e, a .named, outputs-4 4 (outputsOf r) (a .pair) refl)
 
 -- a last test that is not passed
 pub last-fails : (b : Bool) (number place : ℕ) {n p : ℕ} → test b number place (done []) ≡ refused n p → b ≡ false
@@ -90,14 +91,14 @@ present-record r e =
     let c = passed (computesTable r) 6 0 _ (b .1) in
     let four : widthOf r ≡ 4 = eqb-true (widthOf r) 4 (b .0) in
     let read : readOutcome r ≡ done (4 ∷ []) = a .1 ∙ ap done (sym (read-values r (a .1) .1) ∙ ap (λ (n : ℕ). n ∷ []) four) in
-    record { read = read; checked = check-tests r read ∙ ap (λ (b : Bool). test b 6 (firstDifference (recordForm (layout 4) r) table) (done [])) (c .0) }
+    record { read = read; checked = check-tests r read ∙ ap (λ (b : Bool). test b 6 (firstDifference (recordOutput (layout 4 4) r) table) (done [])) (c .0) }
 
 -- a record that Read accepts with width 4 and Check with PRESENT's table passes the tests of Block
 pub present-passes : (r : List ℕ) → PresentRecord r → recordTests r ≡ done []
 unfolding recordTests
 present-passes r h =
     let four : widthOf r ≡ 4 = read-accepted r 4 (h .read) .named in
-    let place = firstDifference (recordForm (layout 4) r) table in
+    let place = firstDifference (recordOutput (layout 4 4) r) table in
     let c = passed (computesTable r) 6 place (done []) (sym (check-tests r (h .read)) ∙ h .checked) in
     rw (h .read, four, c .0) refl
 
@@ -146,15 +147,18 @@ module _ {r : List ℕ} {s : ℕ} {key block random : List ℕ} (a : Callable r 
   accepted : Accepted 4 r
   accepted = read-accepted r 4 (a .present .read)
 
+  four : outputsOf r ≡ 4
+  four = outputs-4 4 (outputsOf r) (accepted .pair) refl
+
   -- it is as long as the code asks
-  pub record-room : recordSize (layout 4) ≤ length r
-  record-room = omega (arith, accepted .whole)
+  pub record-room : recordSize (versionOf r) (layout 4 4) ≤ length r
+  record-room = let w = rw four at (accepted .whole) in omega (arith, w)
 
   -- the S-box takes sharings of nibbles to sharings of nibbles
   pub call-closed : Small 8 random → Closed s (elements 4 random) (recordSbox s (coefficientsOf r))
   call-closed hr =
       let tape = elements 4 random in
-      let coefficients = accepted-record 4 r accepted in
+      let coefficients = rw four at (accepted-record 4 r accepted) in
       let small : (d : ℕ) → Small 4 (drop d tape) = λ d. small-drop 4 d tape (elements-nibbles random hr) in
       record {
         places = λ x d h. result-places coefficients s (join x) x (drop d tape) (a .some) (a .nine) h (small d);

@@ -19,7 +19,7 @@ use Rattle.steps.specs.Call.{Takes}
 use Rattle.steps.proofs.Shape.{shaped-result, shaped-draws}
 use Rattle.steps.proofs.Call.{takes-shape}
 use Rattle.steps.proofs.TwoSecrets.{two-trace}
-use Rattle.sbox.proofs.Counts.{sbox-steps, sbox-draws, sbox-products, figures-4, uniform-sbox}
+use Rattle.sbox.proofs.Counts.{sbox-steps, sbox-draws, sbox-products, figures-4-4, uniform-sbox}
 use Rattle.present.specs.Present.{size80, State, encrypt}
 use Rattle.present.specs.Masked.{blockShape}
 use Rattle.present.specs.Experiment.{Secret}
@@ -39,15 +39,15 @@ use Rattle.cipher.proofs.Box.{substitutes, hides}
 
 box-steps : (s : ℕ) → stepsOf (boxShape s) ≡ 57 * s + 7 * (s * (s - 1))
 unfolding boxShape
-box-steps s = sbox-steps 4 s ∙ figures-4 s .2
+box-steps s = sbox-steps 4 4 s ∙ figures-4-4 s .2
 
 box-draws : (s : ℕ) → drawsOf (boxShape s) ≡ s * (s - 1)
 unfolding boxShape
-box-draws s = sbox-draws 4 s ∙ figures-4 s .1
+box-draws s = sbox-draws 4 4 s ∙ figures-4-4 s .1
 
 box-products : (s : ℕ) → productsOf (boxShape s) ≡ 2
 unfolding boxShape
-box-products s = sbox-products 4 s ∙ figures-4 s .0
+box-products s = sbox-products 4 4 s ∙ figures-4-4 s .0
 
 -- the shape of a block has as many steps, draws and products as the paper says
 pub steps-of-block : (s : ℕ) → 0 < s → stepsOf (blockShape size80 s (boxShape s)) ≡ blockSteps s

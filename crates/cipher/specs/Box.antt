@@ -10,7 +10,7 @@ use Rattle.present.specs.Masked.{maskedEncrypt}
 
 -- the program of the S-box by a record's coefficients, for s shares
 abbrev pub recordSbox : ℕ → List ℕ → List ℕ → Run (List ℕ)
-recordSbox s coefficients = sbox 4 s (basisIn 4 coefficients) (solutionIn 4 coefficients)
+recordSbox s coefficients = sbox 4 s (basisIn 4 4 coefficients) (solutionIn 4 4 coefficients)
 
 -- the masked block: the steps of a call with the key shares ks and the block shares xs
 abbrev pub blockProgram : List ℕ → ℕ → List ℕ → List ℕ → Run (List ℕ)

@@ -22,7 +22,7 @@ pub record PresentRecord (r : List ℕ) : Type 0 where
 
 -- the shape of its S-box
 unfoldable pub boxShape : ℕ → Shape
-boxShape s = sboxShape 4 s (basisSize 4)
+boxShape s = sboxShape 4 s (basisSize 4 4)
 
 -- the experiment: shares 1 to s - 1 of the key and of the block are drawn, share 0 of each is the secret plus these, and the block is run
 unfoldable pub experiment : List ℕ → ℕ → State ℕ → Run (List ℕ)
@@ -34,10 +34,17 @@ blockInputs s = record { secrets = string 10 ∷ string 8 ∷ []; shares = s; wi
 
 -- ---- a record that is taken
 
--- a record of PRESENT's table over the house basis. Mark, version and width; q1; p1; p2
-unfoldable pub houseRecord : List ℕ
-houseRecord =
-    68 ∷ 67 ∷ 80 ∷ 0 ∷ 1 ∷ 4
-    ∷ 0 ∷ 1 ∷ 1 ∷ 0 ∷ 0 ∷ 0 ∷ 0 ∷ 1 ∷ 0
+-- the coefficients of PRESENT's table over the house basis: q1; p1; p2
+unfoldable pub houseCoefficients : List ℕ
+houseCoefficients =
+    0 ∷ 1 ∷ 1 ∷ 0 ∷ 0 ∷ 0 ∷ 0 ∷ 1 ∷ 0
     ∷ 12 ∷ 3 ∷ 3 ∷ 13 ∷ 7 ∷ 0 ∷ 4 ∷ 14 ∷ 14
     ∷ 12 ∷ 1 ∷ 8 ∷ 13 ∷ 3 ∷ 3 ∷ 15 ∷ 0 ∷ 0 ∷ []
+
+-- the record with them: mark, version 2, width and output bits
+unfoldable pub houseRecord : List ℕ
+houseRecord = 68 ∷ 67 ∷ 80 ∷ 0 ∷ 2 ∷ 4 ∷ 4 ∷ houseCoefficients
+
+-- and the one of version 1
+unfoldable pub oldHouseRecord : List ℕ
+oldHouseRecord = 68 ∷ 67 ∷ 80 ∷ 0 ∷ 1 ∷ 4 ∷ houseCoefficients

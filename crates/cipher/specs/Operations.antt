@@ -15,7 +15,7 @@ use Rattle.steps.specs.Fill.{tabulate}
 use Rattle.steps.specs.Tape.{bytesFor}
 use Rattle.decomposition.specs.Layout.{layout}
 use Rattle.decomposition.specs.Record.{widthOf, readOutcome}
-use Rattle.decomposition.specs.Check.{recordForm, firstDifference}
+use Rattle.decomposition.specs.Check.{recordOutput, firstDifference}
 use Rattle.present.specs.Present.{table}
 use Rattle.steps.specs.ShareBytes.{sharesOf, bytesOf}
 use Rattle.cipher.specs.Box.{blockProgram}
@@ -36,9 +36,9 @@ callProgram r s key block = blockProgram r s (sharesOf 10 s key) (sharesOf 8 s b
 
 -- ---- the tests of both operations
 
--- does the form of a record of width 4 compute the table of PRESENT's S-box?
+-- does the output of a record of width 4 compute the table of PRESENT's S-box?
 unfoldable pub computesTable : List ℕ → Bool
-computesTable r = leb (length table) (firstDifference (recordForm (layout 4) r) table)
+computesTable r = leb (length table) (firstDifference (recordOutput (layout 4 4) r) table)
 
 -- those of the record: Read's; 1 a width other than 4; 6 another table than PRESENT's
 unfoldable pub recordTests : List ℕ → Outcome

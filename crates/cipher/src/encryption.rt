@@ -3,7 +3,7 @@ ghost use Prim.Native.Nat.{_*_, _<_, _≤_};
 ghost use mathlib.Core.Path.{_≡_};
 ghost use lib.ListN.{length};
 ghost use Rattle.decomposition.specs.Layout.{layout, recordSize};
-ghost use Rattle.decomposition.specs.Record.{coefficientsOf};
+ghost use Rattle.decomposition.specs.Record.{coefficientsOf, versionOf};
 ghost use Rattle.steps.specs.Tape.{elements};
 ghost use Rattle.steps.specs.Machine.{zeroCounts, Ready, Went};
 ghost use Rattle.steps.specs.ShareBytes.{sharing, ZeroPast};
@@ -13,7 +13,7 @@ ghost use Rattle.cipher.specs.Operations.{callProgram};
 use crate::linear_parts::add_round_key;
 use crate::rounds::RoundState;
 use crate::rounds::rounds;
-use decomposition::layouts::HEAD;
+use decomposition::head_of;
 use steps::Counts;
 
 // The sharing of a block, with what the run has taken.
@@ -48,7 +48,7 @@ pub fn encrypt(
     watch: &[u32],
     values: &mut [u8],
 ) -> Encrypted
-    requires { ⌜ (0 < s) × (s ≤ 9) × (recordSize (layout 4) ≤ length (now rec)) × (length (now key) ≡ 10 * s) × (length (now block) ≡ 8 * s) ⌝ }
+    requires { ⌜ (0 < s) × (s ≤ 9) × (recordSize (versionOf (now rec)) (layout 4 4) ≤ length (now rec)) × (length (now key) ≡ 10 * s) × (length (now block) ≡ 8 * s) ⌝ }
     requires { ⌜ Closed s (elements 4 (now random)) (recordSbox s (coefficientsOf (now rec))) ⌝ }
     requires { ⌜ Ready (elements 4 (now random)) (now watch)
         (callProgram (now rec) s (now key) (now block)) zeroCounts (now values) ⌝ }
@@ -57,7 +57,7 @@ pub fn encrypt(
         zeroCounts (now (values .entry)) (sharing 8 s (r .block)) (r .counts) (now (values .exit)) ⌝ }
     ensures { λ r. ⌜ ZeroPast 8 s (r .block) ⌝ }
 {
-    let coefficients = &rec[HEAD..];
+    let coefficients = &rec[head_of(rec)..];
     let t = load(key, block);
     let t = rounds(s, coefficients, random, watch, &mut *values, t);
     let k = t.key;

@@ -36,7 +36,7 @@ pub fn update_key(
     key: &mut [u8; 90],
     n: Counts,
 ) -> Counts
-    requires { ⌜ (0 < s) × (s ≤ 9) × (r < 32) × (layout 4 .coefficients ≤ length (now coefficients)) ⌝ }
+    requires { ⌜ (0 < s) × (s ≤ 9) × (r < 32) × (layout 4 4 .coefficients ≤ length (now coefficients)) ⌝ }
     requires { ⌜ Closed s (elements 4 (now random)) (recordSbox s (now coefficients)) ⌝ }
     requires { ⌜ Ready (elements 4 (now random)) (now watch)
         (maskedUpdate (recordSbox s (now coefficients)) size80 s r (sharing 10 s (now key))) n (now values) ⌝ }
@@ -72,7 +72,7 @@ pub fn round(
     values: &mut [u8],
     t: RoundState,
 ) -> RoundState
-    requires { ⌜ (0 < s) × (s ≤ 9) × (r < 32) × (layout 4 .coefficients ≤ length (now coefficients)) ⌝ }
+    requires { ⌜ (0 < s) × (s ≤ 9) × (r < 32) × (layout 4 4 .coefficients ≤ length (now coefficients)) ⌝ }
     requires { ⌜ Closed s (elements 4 (now random)) (recordSbox s (now coefficients)) ⌝ }
     requires { ⌜ Ready (elements 4 (now random)) (now watch)
         (maskedRound (recordSbox s (now coefficients)) size80 s r (sharings s t)) (t .counts) (now values) ⌝ }
@@ -107,7 +107,7 @@ pub fn rounds(
     values: &mut [u8],
     t: RoundState,
 ) -> RoundState
-    requires { ⌜ (0 < s) × (s ≤ 9) × (layout 4 .coefficients ≤ length (now coefficients)) ⌝ }
+    requires { ⌜ (0 < s) × (s ≤ 9) × (layout 4 4 .coefficients ≤ length (now coefficients)) ⌝ }
     requires { ⌜ Closed s (elements 4 (now random)) (recordSbox s (now coefficients)) ⌝ }
     requires { ⌜ Ready (elements 4 (now random)) (now watch)
         (for 1 32 (maskedRound (recordSbox s (now coefficients)) size80 s) (sharings s t)) (t .counts) (now values) ⌝ }

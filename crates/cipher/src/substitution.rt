@@ -22,7 +22,7 @@ pub fn sbox_nibble(
     l: &mut [u8],
     n: Counts,
 ) -> Counts
-    requires { ⌜ (s ≤ 9) × (k < 2 * w) × (w * s ≤ length (now l)) × (layout 4 .coefficients ≤ length (now coefficients)) ⌝ }
+    requires { ⌜ (s ≤ 9) × (k < 2 * w) × (w * s ≤ length (now l)) × (layout 4 4 .coefficients ≤ length (now coefficients)) ⌝ }
     requires { ⌜ Closed s (elements 4 (now random)) (recordSbox s (now coefficients)) ⌝ }
     requires { ⌜ Ready (elements 4 (now random)) (now watch)
         (maskedNibble (recordSbox s (now coefficients)) k (sharing w s (now l))) n (now values) ⌝ }
@@ -32,7 +32,7 @@ pub fn sbox_nibble(
     ensures { λ _. ⌜ KeptPast w s (now (l .entry)) (now (l .exit)) ⌝ }
 {
     let x = layers::column(w, s, k, l);
-    let y = sbox::run(4, s, coefficients, &x, random, watch, values, n);
+    let y = sbox::run(4, 4, s, coefficients, &x, random, watch, values, n);
     let v = y.shares;
     layers::replace_column(w, s, k, &v, l);
     y.counts
@@ -48,7 +48,7 @@ pub fn sbox_layer(
     block: &mut [u8; 72],
     n: Counts,
 ) -> Counts
-    requires { ⌜ (s ≤ 9) × (layout 4 .coefficients ≤ length (now coefficients)) ⌝ }
+    requires { ⌜ (s ≤ 9) × (layout 4 4 .coefficients ≤ length (now coefficients)) ⌝ }
     requires { ⌜ Closed s (elements 4 (now random)) (recordSbox s (now coefficients)) ⌝ }
     requires { ⌜ Ready (elements 4 (now random)) (now watch)
         (maskedSboxLayer (recordSbox s (now coefficients)) (sharing 8 s (now block))) n (now values) ⌝ }

@@ -158,3 +158,8 @@ module _ {L : Layout} (z : Sizes L) (basis : List ℕ) (sb : Small (L .width) ba
         dot-agree (scalars (L .width)) (L .unknowns) {e = λ k. getD p k 0} (record { at = λ k l. equation-column L basis x v k l })
         (record { at = λ k l. refl })
         ∙ form-columns
+
+    pub form-small : form L basis p x < 2 ^ L .width
+    form-small =
+        rw (← form-columns)
+        (dot-below (laws-of (z .width)) (L .unknowns) (record { at = λ k l. column-small z basis sb x h k }) (record { at = λ k l. sp k }))

@@ -5,6 +5,7 @@ pub mod Decomposition
 pub mod Tests
 pub mod Record
 pub mod Work
+pub mod Blocks
 pub mod Differences
 pub mod Ready
 pub mod Solved
@@ -12,4 +13,5 @@ pub mod ReadOutcome
 pub mod Settled
 pub mod Total
 pub mod Accepted
+pub mod Reach
 pub mod Theorems

@@ -1,20 +1,21 @@
--- The two layouts fit together, and their numbers stay small.
-use mathlib.Core.Bool.{Bool, true, false, _||_}
+-- The layouts of the pairs fit together, and their numbers stay small.
+use mathlib.Core.Bool.{Bool, true, false, _||_, _&&_, and-eq-true-iff}
 use mathlib.Core.Logic.{_⊎_, inl, inr}
 use mathlib.Core.Path.{_≡_, refl, _∙_, ap, sym, subst}
-use Prim.Native.Nat.{ℕ, _*_, _≤_, _+_, _-_, _<_, _^_, suc}
+use Prim.Native.Nat.{ℕ, _*_, _/_, _≤_, _+_, _-_, _<_, _^_, suc}
 use native.Mathlib.Nat.{mul-le-mul, suc-mul, le-refl}
 use native.Mathlib.Omega.{arith}
 use lib.Dec.{eqb}
 use lib.ListN.{length}
-use borrow.Author.Tests.{eqb-true}
+use lib.Pow.{pow-mono, pow-pos}
+use borrow.Author.Tests.{eqb-true, eq-eqb, ne-eqb}
 use Rattle.field.specs.Mul.{Width, Narrow}
 use Rattle.field.proofs.Turns.{narrow-width}
 use Rattle.field.specs.Polynomial.{exponents}
 use Rattle.field.proofs.Polynomial.{length-exponents-4, length-exponents-6}
 use Rattle.field.proofs.Turns.{width-le}
 use Rattle.linear.proofs.Buffer.{row-room}
-use Rattle.decomposition.specs.Layout.{termsOf, sized, layout, recordSize, Sizes, Known}
+use Rattle.decomposition.specs.Layout.{termsOf, sized, layout, recordSize, Sizes, Known, Pair}
 use Rattle.decomposition.specs.declared.layouts.Layout.{Layout}
 
 -- ---- the widths
@@ -42,33 +43,72 @@ known-narrow = known-both Narrow (inl refl) (inr refl)
 pub known-width : (n : ℕ) → Known n → Width n
 known-width n k = narrow-width n (known-narrow n k)
 
+-- ---- the pairs
+
+-- what holds at (4, 4), (6, 6) and (6, 4) holds at each pair
+pub each-pair : (P : ℕ → ℕ → Type 0) → P 4 4 → P 6 6 → P 6 4 → (n m : ℕ) → Pair n m → P n m
+each-pair P four six mixed n m k = go (either (eqb m n) (eqb n 6 && eqb m 4) (k .outputs))
+  where
+    go : (eqb m n ≡ true) ⊎ ((eqb n 6 && eqb m 4) ≡ true) → P n m
+    go (inl e) = rw (eqb-true m n e) (known-both (λ n. P n n) four six n (k .width))
+    go (inr e) = let x = and-eq-true-iff (eqb n 6) (eqb m 4) .0 e in rw (eqb-true n 6 (x .0), eqb-true m 4 (x .1)) mixed
+
+-- at width 4 all four bits come out; at width 6 all six or four
+pub outputs-4 : (n m : ℕ) → Pair n m → n ≡ 4 → m ≡ 4
+outputs-4 = each-pair (λ n m. n ≡ 4 → m ≡ 4) (λ e. refl) (λ e. absurd (omega arith)) (λ e. refl)
+
+pub outputs-6 : (n m : ℕ) → Pair n m → (m ≡ 6 → ⊥) → m ≡ 4
+outputs-6 = each-pair (λ n m. (m ≡ 6 → ⊥) → m ≡ 4) (λ e. refl) (λ e. absurd (e refl)) (λ e. refl)
+
+-- each width pairs with itself
+pub same-pair : (n : ℕ) → Known n → Pair n n
+same-pair n k = record { width = k; outputs = rw (eq-eqb n n refl) refl }
+
 -- ---- the layouts
 
--- the numbers of the two widths are small
-abbrev Few : ℕ → ℕ → ℕ → Type 0
-Few n e t = (2 ^ n < 256) × (0 < e) × (e < 32) × (0 < t) × (t < 8)
+-- the numbers of the pairs are small
+abbrev Few : ℕ → ℕ → ℕ → ℕ → Type 0
+Few n m e t = (2 ^ n < 256) × (0 < e) × (e < 32) × (0 < t) × (t < 8) × (t * e * n / 8 + 1 ≤ 64) × (0 < m) × (m ≤ n)
+    × ((m ≡ n → ⊥) → t * e * n / 8 + 1 ≡ 43)
 
-few : (n : ℕ) → Known n → Few n (length (exponents n)) (termsOf n)
+few : (n m : ℕ) → Pair n m → Few n m (length (exponents n)) (termsOf n m)
 unfolding termsOf
-few = known-both (λ n. Few n (length (exponents n)) (termsOf n)) (rw length-exponents-4 (omega arith)) (rw length-exponents-6 (omega arith))
+few =
+    each-pair (λ n m. Few n m (length (exponents n)) (termsOf n m))
+    (rw length-exponents-4 (omega arith, omega arith, omega arith, omega arith, omega arith, omega arith, omega arith, omega arith, λ h. absurd (h refl)))
+    (rw length-exponents-6 (omega arith, omega arith, omega arith, omega arith, omega arith, omega arith, omega arith, omega arith, λ h. absurd (h refl)))
+    (rw length-exponents-6 (omega arith, omega arith, omega arith, omega arith, omega arith, omega arith, omega arith, omega arith, λ h. refl))
 
 one-less : (e t : ℕ) → 0 < t → (t - 1) * e + e ≡ t * e
 one-less e t h = let g : suc (t - 1) ≡ t = omega arith in sym (suc-mul (t - 1) e) ∙ ap (λ (k : ℕ). k * e) g
 
--- the layouts of the two widths fit together
-pub sizes : (n : ℕ) → Known n → Sizes (layout n)
+-- a row has room for the bits and the right side
+row-bits : (u : ℕ) → u < (u / 8 + 1) * 8
+row-bits u = omega arith
+
+-- the layouts of the pairs fit together
+pub sizes : (n m : ℕ) → Pair n m → Sizes (layout n m)
 unfolding layout sized
-sizes n k =
-    let f = few n k in
+sizes n m k =
+    let f = few n m k in
+    let t = termsOf n m in
+    let e = length (exponents n) in
     record {
-      width = known-narrow n k;
+      width = known-narrow n (k .width);
       inputs = refl;
+      entries = refl;
+      some-outputs = f .6;
+      few-outputs = f .7;
       listed = refl;
       unknowns = refl;
-      basis = one-less (length (exponents n)) (termsOf n) (f .3);
+      basis = one-less e t (f .3);
       coefficients = refl;
       powers = refl;
-      work = refl;
+      element-work = λ q. rw (eq-eqb m n q) refl;
+      bit-work = λ q. rw (ne-eqb m n q) refl;
+      bit-room = row-bits (t * e * n);
+      few-bytes = f .5;
+      bit-row = f .8;
       byte = f .0;
       some-exponents = f .1;
       few-exponents = f .2;
@@ -76,18 +116,28 @@ sizes n k =
       few-terms = f .4;
     }
 
--- the numbers that the paper names: the lengths of a record and of the work of a fit
-pub sizes-4 : (recordSize (layout 4) ≡ 33) × (layout 4 .work ≡ 448)
+-- the numbers that the papers name: the lengths of a record in each version, and of the work of a fit
+pub sizes-4-4 : let L = layout 4 4 in (recordSize 1 L ≡ 33) × (recordSize 2 L ≡ 34) × (L .work ≡ 448)
 unfolding layout sized termsOf
-sizes-4 = rw length-exponents-4 (refl, refl)
+sizes-4-4 = rw length-exponents-4 (refl, refl, refl)
 
-pub sizes-6 : (recordSize (layout 6) ≡ 139) × (layout 6 .work ≡ 6144)
+pub sizes-6-6 : let L = layout 6 6 in (recordSize 1 L ≡ 139) × (recordSize 2 L ≡ 140) × (L .work ≡ 6144)
 unfolding layout sized termsOf
-sizes-6 = rw length-exponents-6 (refl, refl)
+sizes-6-6 = rw length-exponents-6 (refl, refl, refl)
 
-pub layout-width : (n : ℕ) → layout n .width ≡ n
+-- 256 equations in 342 unknown bits
+pub sizes-6-4 : let L = layout 6 4 in
+    (recordSize 2 L ≡ 102) × (L .work ≡ 11008) × (L .terms ≡ 3) × (L .inputs * L .outputs ≡ 256) × (L .unknowns * L .width ≡ 342)
+unfolding layout sized termsOf
+sizes-6-4 = rw length-exponents-6 (refl, refl, refl, refl, refl)
+
+pub layout-width : (n m : ℕ) → layout n m .width ≡ n
 unfolding layout sized
-layout-width n = refl
+layout-width n m = refl
+
+pub layout-outputs : (n m : ℕ) → layout n m .outputs ≡ m
+unfolding layout sized
+layout-outputs n m = refl
 
 -- ---- the numbers stay small
 
@@ -103,6 +153,17 @@ module _ {L : Layout} (z : Sizes L) where
 
   pub powers-few : L .powers ≤ 55808
   powers-few = rw (z .powers) (mul-le-mul {n₂ = 256} {m₂ = 218} (omega (arith, z .byte)) (omega (arith, unknowns-few)))
+
+  pub rows-few : L .inputs * L .outputs ≤ 2048
+  rows-few =
+      mul-le-mul {n₂ = 256} {m₂ = 8} (omega (arith, z .byte))
+      (omega (arith, z .few-outputs, width-le (L .width) (narrow-width (L .width) (z .width))))
+
+  pub entries-few : L .entries ≤ L .inputs
+  entries-few = rw (z .entries, z .inputs) (pow-mono (z .few-outputs))
+
+  pub some-entries : 0 < L .entries
+  some-entries = rw (z .entries) (pow-pos (L .outputs))
 
   pub width-few : L .width ≤ 8
   width-few = width-le (L .width) (narrow-width (L .width) (z .width))

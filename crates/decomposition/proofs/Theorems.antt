@@ -1,142 +1,238 @@
 -- What is proved of decompositions, of Fit and House fit, and of the records that they write.
 use mathlib.Core.List.{List, [], _∷_}
 use mathlib.Core.Logic.{⊎-elim}
-use mathlib.Core.Path.{_≡_, refl, sym, ap, subst, _∙_}
-use Prim.Native.Nat.{ℕ, _^_, _<_}
+use mathlib.Core.Path.{_≡_, refl, sym, ap, ap₂, subst, _∙_}
+use Prim.Native.Nat.{ℕ, _%_, _^_, _<_}
+use native.Mathlib.Nat.{mod-eq-of-lt}
 use native.Mathlib.Omega.{arith}
+use lib.Dec.{leb, eqb}
 use lib.ListN.{length, getD, replicate}
 use Rattle.xor.specs.Sum.{Small}
-use Rattle.refusal.specs.Large.{firstLarge}
-use Rattle.refusal.specs.Outcome.{Outcome, done, refused, andThen}
-use Rattle.refusal.proofs.Outcome.{passed}
-use Rattle.field.proofs.Polynomial.{length-exponents-4}
-use Rattle.decomposition.specs.Check.{checkOutcome, checkAt}
+use Rattle.refusal.specs.Large.{firstLarge, testBelow}
+use Rattle.refusal.specs.Outcome.{Outcome, done, refused, test, andThen}
+use Rattle.refusal.proofs.Large.{below-passes, none-large}
+use Rattle.refusal.proofs.Outcome.{then-passed}
+use Rattle.field.proofs.Polynomial.{length-exponents-4, length-exponents-6}
+use Rattle.decomposition.specs.Check.{checkOutcome, checkAt, firstDifference, formIn, recordForm}
 use Rattle.decomposition.specs.Fit.{FitCall, FitEnd, fitLengths, allTests, fitOutcome, fitWork, fitRecord, fitEnd, houseBasis, houseCall, Found, AfterTests, IsFit}
-use Rattle.decomposition.specs.Form.{Computes, Decomposition, form}
-use Rattle.decomposition.specs.Layout.{known, layout, sized, termsOf, Known}
-use Rattle.decomposition.specs.Record.{basisOf, coefficientsOf, readOutcome, recordOf, solutionOf}
-use Rattle.decomposition.proofs.Accepted.{written-check, written-read}
-use Rattle.decomposition.proofs.Decomposition.{decomposition-exists, decomposition-unique, zero-decomposition}
-use Rattle.decomposition.proofs.ReadOutcome.{read-values, accepted-computes}
-use Rattle.decomposition.proofs.Ready.{fit-ready}
-use Rattle.decomposition.proofs.Settled.{Passed, fit-cases, fit-settled}
-use Rattle.decomposition.proofs.Sizes.{layout-width, sizes}
+use Rattle.decomposition.specs.Form.{Computes, Decomposition, ElementDecomposition, NoDecomposition, form}
+use Rattle.decomposition.specs.Layout.{layout, sized, termsOf, Known, Pair}
+use Rattle.decomposition.specs.Reach.{desTable, sumOver, zeroSumInputs}
+use Rattle.decomposition.specs.Record.{Accepted, SameRecord, basisOf, coefficientsOf, layoutOf, oldRecord, outputsOf, readOutcome, recordOf, solutionOf, widthOf}
+use Rattle.decomposition.proofs.Accepted.{old-record, written-check, written-read}
+use Rattle.decomposition.proofs.Decomposition.{decomposition-exists, decomposition-unique, decomposition-elements, elements-are, zero-decomposition}
+use Rattle.decomposition.proofs.Reach.{des-entries, des-length, des-sum, form-sum, table-sum}
+use Rattle.decomposition.proofs.ReadOutcome.{read-values, accepted-computes, accepted-read, accepted-small}
+use Rattle.decomposition.proofs.Settled.{Passed, fit-cases, fit-settled, tests-passed}
+use Rattle.decomposition.proofs.Sizes.{layout-outputs, layout-width, same-pair, sizes}
 use Rattle.decomposition.proofs.Total.{fit-total}
 
--- ---- THE decomposition
+-- ---- THE decomposition, for each pair of width n and m output bits
 
-small-at : (n : ℕ) (l : List ℕ) → Small n l → Small (layout n .width) l
-small-at n l s = λ k. rw (layout-width n) (s k)
+module _ (n m : ℕ) (table basis : List ℕ) (st : Small m table) (sb : Small n basis) where
+  table-small : Small (layout n m .outputs) table
+  table-small = λ k. rw (layout-outputs n m) (st k)
 
--- there is at most one
-pub at-most-one : (n : ℕ) → Known n → (table basis p q : List ℕ) → Small n table → Small n basis
-    → Decomposition (layout n) table basis p → Decomposition (layout n) table basis q → p ≡ q
-at-most-one n w table basis p q st sb d e = decomposition-unique (sizes n w) table basis (small-at n basis sb) (small-at n table st) p q d e
+  basis-small : Small (layout n m .width) basis
+  basis-small = λ k. rw (layout-width n m) (sb k)
 
--- there is one whenever any p meets the table
-pub one-exists : (n : ℕ) → Known n → (table basis p : List ℕ) → Small n table → Small n basis
-    → Computes (layout n) table basis p → (q : List ℕ) × Decomposition (layout n) table basis q
-one-exists n w table basis p st sb c = decomposition-exists (sizes n w) table basis (small-at n basis sb) (small-at n table st) p c
+  -- there is at most one
+  pub at-most-one : Pair n m → (p q : List ℕ) → Decomposition (layout n m) table basis p → Decomposition (layout n m) table basis q → p ≡ q
+  at-most-one w p q d e = decomposition-unique (sizes n m w) table basis basis-small table-small p q d e
 
--- it meets the table
-pub meets-table : (n : ℕ) (table basis p : List ℕ) → Decomposition (layout n) table basis p
-    → (x : ℕ) → x < 2 ^ n → form (layout n) basis p x ≡ getD table x 0
-meets-table n table basis p d x h = d .computes .equal x (rw (layout-width n) h)
+  -- there is one whenever any p meets the table
+  pub one-exists : Pair n m → (p : List ℕ) → Computes (layout n m) table basis p → (q : List ℕ) × Decomposition (layout n m) table basis q
+  one-exists w p c = decomposition-exists (sizes n m w) table basis basis-small table-small p c
 
--- ---- Fit, and House fit, which is a fit of width 4
+-- its low output bits are the table
+pub meets-table : (n m : ℕ) (table basis p : List ℕ) → Decomposition (layout n m) table basis p
+    → (x : ℕ) → x < 2 ^ n → form (layout n m) basis p x % 2 ^ m ≡ getD table x 0
+meets-table n m table basis p d x h =
+    ap (λ (k : ℕ). form (layout n m) basis p x % 2 ^ k) (sym (layout-outputs n m)) ∙ d .computes .equal x (rw (layout-width n m) h)
+
+-- where all bits count it is the decomposition over elements, and that one is it
+pub equal-widths : (n : ℕ) → Known n → (table basis p : List ℕ) → Small n table → Small n basis
+    → let L = layout n n in
+    (Decomposition L table basis p → ElementDecomposition L table basis p) × (ElementDecomposition L table basis p → Decomposition L table basis p)
+equal-widths n w table basis p st sb =
+    let z = sizes n n (same-pair n w) in
+    let same = layout-outputs n n ∙ sym (layout-width n n) in
+    let b = basis-small n n table basis st sb in
+    let t = table-small n n table basis st sb in
+    (decomposition-elements z table basis b same t p, elements-are z table basis b same t p)
+
+-- ---- Fit, and House fit, which is a fit at (4, 4)
 
 -- every call has an end that meets what is asked: the one that the contracts equate with
-pub one-end : (n : ℕ) (c : FitCall) → IsFit n c (fitEnd n c)
+pub one-end : (n m : ℕ) (c : FitCall) → IsFit n m c (fitEnd n m c)
 one-end = fit-total
 
 -- and no other end does: the outcome is settled, and every byte lent for writing
-pub one-outcome : (n : ℕ) (c : FitCall) (e e′ : FitEnd) → IsFit n c e → IsFit n c e′ → e ≡ e′
+pub one-outcome : (n m : ℕ) (c : FitCall) (e e′ : FitEnd) → IsFit n m c e → IsFit n m c e′ → e ≡ e′
 one-outcome = fit-settled
 
 -- it refuses by 4 only if no p meets the table
-pub four-means-none : (n : ℕ) (c : FitCall) (place : ℕ) → fitOutcome n c ≡ refused 4 place
-    → (p : List ℕ) → Computes (layout n) (c .table) (c .basis) p → ⊥
-four-means-none n c place h p m =
-    ⊎-elim (λ x. let e : 4 ≡ x .number = number-of (sym h ∙ x .is) in omega (arith, x .small))
-    (λ x. subst (Found (layout n) c (fitRecord n c)) h (x .found) .none .never p m) (fit-cases n c (fitEnd n c) (fit-total n c))
+pub four-means-none : (n m : ℕ) (c : FitCall) (place : ℕ) → fitOutcome n m c ≡ refused 4 place
+    → (p : List ℕ) → Computes (layout n m) (c .table) (c .basis) p → ⊥
+four-means-none n m c place h p k =
+    ⊎-elim (λ x. x .other (number-of (sym (x .is) ∙ h)))
+    (λ x. subst (Found (layout n m) c (fitRecord n m c)) h (x .found) .none .never p k) (fit-cases n m c (fitEnd n m c) (fit-total n m c))
   where
-    number-of : {k p : ℕ} → refused 4 place ≡ refused k p → 4 ≡ k
+    number-of : {k p : ℕ} → refused k p ≡ refused 4 place → k ≡ 4
     number-of e = cc
 
 -- it succeeds whenever no test refuses and any p meets the table
-pub succeeds : (n : ℕ) (c : FitCall) (p : List ℕ) → allTests n c ≡ done [] → Computes (layout n) (c .table) (c .basis) p → fitOutcome n c ≡ done []
-succeeds n c p t m = go (fitOutcome n c) (subst (AfterTests (layout n) c (fitEnd n c)) t (fit-total n c) .1)
+pub succeeds : (n m : ℕ) (c : FitCall) (p : List ℕ) → allTests n m c ≡ done [] → Computes (layout n m) (c .table) (c .basis) p
+    → fitOutcome n m c ≡ done []
+succeeds n m c p t k = go (fitOutcome n m c) (subst (AfterTests (layout n m) c (fitEnd n m c)) t (fit-total n m c) .1)
   where
-    go : (r : Outcome) → Found (layout n) c (fitRecord n c) r → r ≡ done []
+    go : (r : Outcome) → Found (layout n m) c (fitRecord n m c) r → r ≡ done []
     go (done values) h = ap done (h .nothing-more)
-    go (refused number place) h = absurd (h .none .never p m)
+    go (refused number place) h = absurd (h .none .never p k)
+
+-- and refuses by 4 whenever no test refuses and no p does
+pub none-means-four : (n m : ℕ) (c : FitCall) → allTests n m c ≡ done [] → NoDecomposition (layout n m) (c .table) (c .basis)
+    → fitOutcome n m c ≡ refused 4 0
+none-means-four n m c t none = go (fitOutcome n m c) (subst (AfterTests (layout n m) c (fitEnd n m c)) t (fit-total n m c) .1)
+  where
+    go : (r : Outcome) → Found (layout n m) c (fitRecord n m c) r → r ≡ refused 4 0
+    go (done values) h = absurd (none .never (h .p) (h .decomposition .computes))
+    go (refused number place) h = ap₂ refused (h .number-is) (h .place-is)
 
 -- ---- the record that a fit writes
 
-module _ (n : ℕ) (c : FitCall) {values : List ℕ} (f : fitOutcome n c ≡ done values) where
-  passed-all : Passed n c (record { outcome = done values; work = fitWork n c; out = fitRecord n c })
+module _ (n m : ℕ) (c : FitCall) {values : List ℕ} (f : fitOutcome n m c ≡ done values) where
+  passed-all : Passed n m c (record { outcome = done values; work = fitWork n m c; out = fitRecord n m c })
   passed-all = ⊎-elim (λ x. absurd (never (x .is))) (λ x. x)
-      (fit-cases n c _ (subst (λ (o : Outcome). IsFit n c (record { outcome = o; work = fitWork n c; out = fitRecord n c })) f (fit-total n c)))
+      (fit-cases n m c _ (subst (λ (o : Outcome). IsFit n m c (record { outcome = o; work = fitWork n m c; out = fitRecord n m c })) f (fit-total n m c)))
     where
       never : {k p : ℕ} → done values ≡ refused k p → ⊥
       never e = let q : _≡_ {A = ℕ} 0 1 = cc in omega arith
 
   -- Read accepts it
-  pub fit-then-read : readOutcome (fitRecord n c) ≡ done (n ∷ [])
+  pub fit-then-read : readOutcome (fitRecord n m c) ≡ done (n ∷ [])
   fit-then-read =
       let x = passed-all in
       let d = x .found .decomposition .computes in
       ap readOutcome (x .found .whole)
-      ∙ written-read n (x .width) (c .basis) (x .found .p) (x .ready .whole) (d .unknowns) (x .ready .elements) (d .elements)
+      ∙ written-read n m (x .pair) (c .basis) (x .found .p) (x .ready .whole) (d .unknowns) (x .ready .elements) (d .elements)
 
   -- Check accepts it with the table
-  pub fit-then-check : checkOutcome (fitRecord n c) (c .table) ≡ done []
+  pub fit-then-check : checkOutcome (fitRecord n m c) (c .table) ≡ done []
   fit-then-check =
       let x = passed-all in
       let d = x .found .decomposition .computes in
       ap (λ (r : List ℕ). checkOutcome r (c .table)) (x .found .whole)
-      ∙ written-check n (x .width) (c .basis) (x .found .p) (x .ready .whole) (d .unknowns) (x .ready .elements) (d .elements) (c .table)
+      ∙ written-check n m (x .pair) (c .basis) (x .found .p) (x .ready .whole) (d .unknowns) (x .ready .elements) (d .elements) (c .table)
       (x .ready .inputs) (x .ready .entries) (d .equal)
 
 -- ---- Check
 
--- the form of a record that Check accepts computes the table
+-- the low output bits of the form of a record that Check accepts are the table
 pub check-computes : (r table : List ℕ) → checkOutcome r table ≡ done []
-    → let L = layout (getD r 5 0) in Computes L table (basisOf L (coefficientsOf r)) (solutionOf L (coefficientsOf r))
+    → let L = layoutOf r in Computes L table (basisOf L (coefficientsOf r)) (solutionOf L (coefficientsOf r))
 unfolding checkOutcome
 check-computes r table = go (readOutcome r) refl
   where
-    go : (T : Outcome) → readOutcome r ≡ T → let L = layout (getD r 5 0) in
+    go : (T : Outcome) → readOutcome r ≡ T → let L = layoutOf r in
         andThen T (checkAt L r table) ≡ done [] → Computes L table (basisOf L (coefficientsOf r)) (solutionOf L (coefficientsOf r))
     go (refused number place) e h = absurd (let q : _≡_ {A = ℕ} 0 1 = cc in omega arith)
-    go (done values) e h = accepted-computes (getD r 5 0) r table (read-values r e .0) h
+    go (done values) e h = accepted-computes (widthOf r) r table (read-values r e .0) h
+
+pub check-output : (r table : List ℕ) → checkOutcome r table ≡ done [] → (x : ℕ) → x < 2 ^ widthOf r
+    → recordForm (layoutOf r) r x % 2 ^ outputsOf r ≡ getD table x 0
+check-output r table e x h =
+    ap (λ (m : ℕ). recordForm (layoutOf r) r x % 2 ^ m) (sym (layout-outputs (widthOf r) (outputsOf r)))
+    ∙ check-computes r table e .equal x (rw (layout-width (widthOf r) (outputsOf r)) h)
+
+-- the form itself is the table where all its bits come out
+pub check-whole : (r table : List ℕ) → checkOutcome r table ≡ done [] → outputsOf r ≡ widthOf r → (x : ℕ) → x < 2 ^ widthOf r
+    → recordForm (layoutOf r) r x ≡ getD table x 0
+unfolding checkOutcome
+check-whole r table e same x h = sym (mod-eq-of-lt small) ∙ check-output r table e x h
+  where
+    accepted : Accepted (widthOf r) r
+    accepted = read-values r (then-passed (readOutcome r) _ e .1) .0
+
+    small : recordForm (layoutOf r) r x < 2 ^ outputsOf r
+    small = subst (λ (m : ℕ). recordForm (layoutOf r) r x < 2 ^ m) (sym same) (accepted-small (widthOf r) r accepted x h)
+
+-- ---- versions
+
+-- the record of version 1 with the coefficients of one of version 2 is the same record,
+pub old-same : (n : ℕ) → Known n → (basis p : List ℕ) → length basis ≡ layout n n .basis → length p ≡ layout n n .unknowns → Small n basis → Small n p
+    → SameRecord n (oldRecord n basis p) (recordOf (layout n n) basis p)
+old-same = old-record
+
+-- Read accepts both, with the same answer,
+pub same-read : (n : ℕ) (r r′ : List ℕ) → SameRecord n r r′ → readOutcome r ≡ readOutcome r′
+same-read n r r′ e = accepted-read r n (e .accepted) ∙ sym (accepted-read r′ n (e .accepted′))
+
+-- and so does Check, with every table.
+pub same-check : (n : ℕ) (r r′ table : List ℕ) → SameRecord n r r′ → checkOutcome r table ≡ checkOutcome r′ table
+unfolding checkOutcome
+same-check n r r′ table e =
+    ap (λ (o : Outcome). andThen o (checkAt (layoutOf r) r table)) (same-read n r r′ e)
+    ∙ ap₂ (λ (k m : ℕ). andThen (readOutcome r′) (checkAt (layout k m) r table)) (e .accepted .named ∙ sym (e .accepted′ .named)) (e .outputs)
+    ∙ ap (λ (cs : List ℕ). andThen (readOutcome r′) (checked cs)) (e .coefficients)
+  where
+    -- the tests of the table by the coefficients
+    checked : List ℕ → Outcome
+    checked cs =
+        let L = layoutOf r′ in
+        let first = firstDifference (λ x. formIn L cs x % L .entries) table in
+        test (eqb (length table) (L .inputs)) 2 0 (testBelow (L .entries) 0 table (test (leb (length table) first) 6 first (done [])))
 
 -- ---- the zero table
 
 -- the zero table is decomposed by zero, over any basis
-pub zero-table : (n : ℕ) (c : FitCall) → c .table ≡ replicate (2 ^ n) 0 → allTests n c ≡ done []
-    → (fitOutcome n c ≡ done []) × (fitRecord n c ≡ recordOf (layout n) (c .basis) (replicate (layout n .unknowns) 0))
-zero-table n c q t =
-    let L = layout n in
+pub zero-table : (n m : ℕ) (c : FitCall) → c .table ≡ replicate (2 ^ n) 0 → allTests n m c ≡ done []
+    → (fitOutcome n m c ≡ done []) × (fitRecord n m c ≡ recordOf (layout n m) (c .basis) (replicate (layout n m .unknowns) 0))
+zero-table n m c q t =
+    let L = layout n m in
     let zeros : List ℕ = replicate (L .unknowns) 0 in
-    let a = passed (known n) 1 0 _ t in
-    let z = sizes n (a .0) in
-    let y = fit-ready L c z (a .1) in
-    let i : L .inputs ≡ 2 ^ n = z .inputs ∙ ap (λ (k : ℕ). 2 ^ k) (layout-width n) in
+    let a = tests-passed n m c t in
+    let z = sizes n m (a .0) in
+    let y = a .1 in
+    let i : L .inputs ≡ 2 ^ n = z .inputs ∙ ap (λ (k : ℕ). 2 ^ k) (layout-width n m) in
     let d : Decomposition L (c .table) (c .basis) zeros =
     subst (λ (table : List ℕ). Decomposition L table (c .basis) zeros) (ap (λ (k : ℕ). replicate k 0) i ∙ sym q)
     (zero-decomposition z (c .basis) (y .elements)) in
-    let e = succeeds n c zeros t (d .computes) in
-    let g = passed-all n c e .found in (
+    let e = succeeds n m c zeros t (d .computes) in
+    let g = passed-all n m c e .found in (
       e,
       g .whole
           ∙ ap (recordOf L (c .basis)) (decomposition-unique z (c .table) (c .basis) (y .elements) (y .entries) (g .p) zeros (g .decomposition) d),
     )
 
 -- paper check (k): with the house basis
-pub zero-house : (work out : List ℕ) → length work ≡ 448 → length out ≡ 33
+pub zero-house : (work out : List ℕ) → length work ≡ 448 → length out ≡ 34
     → let c = houseCall (replicate 16 0) work out in
-    (fitOutcome 4 c ≡ done []) × (fitRecord 4 c ≡ recordOf (layout 4) houseBasis (replicate 18 0))
+    (fitOutcome 4 4 c ≡ done []) × (fitRecord 4 4 c ≡ recordOf (layout 4 4) houseBasis (replicate 18 0))
 unfolding layout sized termsOf houseBasis firstLarge fitLengths
 zero-house work out lw lo =
-    rw length-exponents-4 at (zero-table 4 (houseCall (replicate 16 0) work out) refl (rw (lw, lo, length-exponents-4) refl))
+    rw length-exponents-4 at (zero-table 4 4 (houseCall (replicate 16 0) work out) refl (rw (lw, lo, length-exponents-4) refl))
+
+-- ---- what cannot be decomposed
+
+-- over three lists of inputs every form of width 6 sums to 0, whatever its basis
+pub form-sums : (c : ℕ) → c < 3 → (m : ℕ) (basis p : List ℕ) → Small 6 p → sumOver (zeroSumInputs c) (form (layout 6 m) basis p) ≡ 0
+form-sums = form-sum
+
+-- so a table with another sum has no decomposition, over any basis
+pub other-sum-none : (c : ℕ) → c < 3 → (m : ℕ) (table basis : List ℕ) → 0 < sumOver (zeroSumInputs c) (λ x. getD table x 0)
+    → NoDecomposition (layout 6 m) table basis
+other-sum-none c h m table basis s = record { never = λ p d. let e = table-sum c h m table basis p d in omega arith }
+
+-- the S-boxes of DES are such tables
+pub des-none : (k : ℕ) → k < 8 → (basis : List ℕ) → NoDecomposition (layout 6 4) (desTable k) basis
+des-none k h basis = other-sum-none 1 (omega arith) 4 (desTable k) basis (des-sum k h)
+
+-- and Fit answers 4 for each of them, over every basis
+pub des-refused : (k : ℕ) → k < 8 → (basis work out : List ℕ) → length basis ≡ 38 → Small 6 basis → length work ≡ 11008 → length out ≡ 102
+    → fitOutcome 6 4 (record { table = desTable k; basis = basis; work = work; out = out }) ≡ refused 4 0
+unfolding layout sized termsOf fitLengths
+des-refused k h basis work out lb sb lw lo =
+    none-means-four 6 4 (record { table = desTable k; basis = basis; work = work; out = out })
+    (rw (des-length k h, des-entries k h, lb, lw, lo, length-exponents-6) (rw lb at (below-passes 64 64 basis (done []) (none-large 64 basis sb))))
+    (des-none k h basis)

@@ -4,35 +4,37 @@ use mathlib.Core.Bool.{Bool, true, false, cond}
 use mathlib.Core.List.{List, [], _∷_}
 use mathlib.Core.Logic.{_⊎_, inl, inr}
 use mathlib.Core.Path.{_≡_, refl, sym, ap, ap₂, subst, _∙_}
-use Prim.Native.Nat.{ℕ, zero, suc, _+_, _*_, _/_, _^_, _≤_, _<_}
+use Prim.Native.Nat.{ℕ, zero, suc, _+_, _*_, _/_, _%_, _^_, _≤_, _<_}
 use native.Mathlib.Decide.{ℕ-discrete}
-use native.Mathlib.Nat.{mul-le-mul-right, suc-mul, mod-lt, div-add-mod', pow-zero, pow-suc}
+use native.Mathlib.Nat.{le-refl, mul-le-mul-right, suc-mul, mod-eq-of-lt, mod-lt, mod-one, div-add-mod', div-lt-iff-lt-mul, le-div-iff-mul-le, pow-zero, pow-suc}
 use lib.Arith.{digits-lt, digits-mod, digits-div}
 use native.Mathlib.Omega.{arith}
 use lib.ListN.{length, getD, replicate}
-use lib.Pow.{pow-pos}
+use lib.Pow.{pow-pos, mod-pow-add}
 use borrow.Author.Tests.{leb-true, le-leb, ltb-true, ltb-false}
 use Rattle.xor.specs.Sum.{Small}
 use Rattle.refusal.specs.Outcome.{Outcome, done, refused, test, andThen, written}
-use Rattle.refusal.proofs.Outcome.{passed}
-use Rattle.linear.specs.Scalars.{scalars}
-use Rattle.linear.specs.System.{Free}
+use Rattle.field.proofs.Inverses.{field-of}
+use Rattle.field.proofs.Turns.{narrow-width}
+use Rattle.linear.specs.Bits.{bit, bits}
+use Rattle.linear.specs.Packed.{bitsOf}
+use Rattle.linear.specs.System.{Elements, Free}
 use Rattle.linear.specs.Row.{plus}
-use Rattle.linear.proofs.Row.{small-shorter, plus-small, dot-plus}
-use Rattle.linear.proofs.Scalars.{laws-of}
+use Rattle.linear.proofs.Bits.{bit-laws, bit-lt}
+use Rattle.linear.proofs.Bitwise.{bit-elements, bit-of-place, place-within}
+use Rattle.linear.proofs.Row.{plus-small, dot-plus}
 use Rattle.linear.proofs.System.{last-free, sum-zero}
 use Rattle.decomposition.specs.Check.{firstDifference}
-use Rattle.decomposition.specs.Equations.{system}
+use Rattle.decomposition.specs.Equations.{bitSystem, system}
 use Rattle.decomposition.specs.Fit.{FitCall, FitEnd, allTests, FitReady, fitOutcome, fitWork, fitRecord, fitEnd, Found, AfterTests, IsFit}
 use Rattle.decomposition.specs.Form.{Computes, Decomposition, NoDecomposition, form}
-use Rattle.decomposition.specs.Layout.{Sizes, known, layout}
+use Rattle.decomposition.specs.Layout.{Sizes, layout}
 use Rattle.decomposition.specs.Record.{recordOf}
 use Rattle.decomposition.specs.Solution.{digits, firstBelow, meets, candidates, candidate, solutionNumber, solvable, solution}
 use Rattle.decomposition.specs.declared.layouts.Layout.{Layout}
-use Rattle.decomposition.proofs.Decomposition.{computes-solves, decomposition-canonical, system-elements, decomposition-or-none}
+use Rattle.decomposition.proofs.Decomposition.{computes-solves, decomposition-canonical, decomposition-or-none}
 use Rattle.decomposition.proofs.Differences.{difference-none, no-difference}
-use Rattle.decomposition.proofs.Ready.{fit-ready}
-use Rattle.decomposition.proofs.Settled.{fit-settled}
+use Rattle.decomposition.proofs.Settled.{fit-settled, tests-passed}
 use Rattle.decomposition.proofs.Sizes.{sizes}
 
 -- ---- the first number
@@ -95,10 +97,10 @@ unfolding number
 number-lt b [] h = rw (pow-zero b) (omega arith)
 number-lt b (x ∷ l) h = rw (pow-suc b (length l)) (digits-lt (number-lt b l (λ i k. h (suc i) (omega arith))) (h 0 (omega arith)))
 
--- Two lists of one length. Where they agree after place k, they agree at k or the second is 0 there. Then they are equal, or the second has the smaller
--- number.
+-- Two lists of one length. Where they agree after place k, they agree at k or the second is smaller there. Then they are equal, or the second has the
+-- smaller number.
 last-first : (b : ℕ) (p q : List ℕ) → length p ≡ length q → ((i : ℕ) → i < length q → getD q i 0 < b)
-    → ((k : ℕ) → k < length p → ((j : ℕ) → k < j → j < length p → getD p j 0 ≡ getD q j 0) → (getD p k 0 ≡ getD q k 0) ⊎ (getD q k 0 ≡ 0))
+    → ((k : ℕ) → k < length p → ((j : ℕ) → k < j → j < length p → getD p j 0 ≡ getD q j 0) → (getD p k 0 ≡ getD q k 0) ⊎ (getD q k 0 < getD p k 0))
     → (p ≡ q) ⊎ (number b q < number b p)
 unfolding number
 last-first b [] [] e hq h = inl refl
@@ -117,12 +119,9 @@ last-first b (x ∷ p) (y ∷ q) e hq h =
     same f zero g g' = absurd (omega arith)
     same f (suc j) g g' = ap (λ (l : List ℕ). getD l j 0) f
 
-    here : p ≡ q → (x ≡ y) ⊎ (y ≡ 0) → (x ∷ p ≡ y ∷ q) ⊎ (number b q * b + y < number b p * b + x)
+    here : p ≡ q → (x ≡ y) ⊎ (y < x) → (x ∷ p ≡ y ∷ q) ⊎ (number b q * b + y < number b p * b + x)
     here f (inl g) = inl (ap₂ (λ (z : ℕ) (l : List ℕ). z ∷ l) g f)
-    here f (inr g) = elim (ℕ-discrete x y) [
-      | yes w ↦ inl (ap₂ (λ (z : ℕ) (l : List ℕ). z ∷ l) w f)
-      | no n ↦ inr (let c : number b q * b ≡ number b p * b = ap (λ (l : List ℕ). number b l * b) (sym f) in omega arith)
-    ]
+    here f (inr g) = inr (let c : number b q * b ≡ number b p * b = ap (λ (l : List ℕ). number b l * b) (sym f) in omega arith)
 
     rest : (p ≡ q) ⊎ (number b q < number b p) → (x ∷ p ≡ y ∷ q) ⊎ (number b q * b + y < number b p * b + x)
     rest (inl f) = here f (h 0 (omega arith) (same f))
@@ -131,45 +130,113 @@ last-first b (x ∷ p) (y ∷ q) e hq h =
         let more : suc (number b q) * b ≤ number b p * b = mul-le-mul-right b g in
         inr (omega (arith, more, suc-mul (number b q) b))
 
+-- the low bits of v, one more
+low-sum : (k v : ℕ) → v % 2 ^ suc k ≡ bit k v * 2 ^ k + v % 2 ^ k
+unfolding bit
+low-sum k v = let e : suc k ≡ 1 + k = omega arith in ap (λ (x : ℕ). v % 2 ^ x) e ∙ mod-pow-add v 1 k
+
+-- The same for the bits of two elements: where they agree after bit i, they agree there or the second has 0. Then the elements are equal, or the second is
+-- smaller
+module _ (n a c : ℕ) (h : (i : ℕ) → i < n → ((j : ℕ) → i < j → j < n → bit j a ≡ bit j c) → (bit i a ≡ bit i c) ⊎ (bit i c ≡ 0)) where
+  low-first : (k : ℕ) → k ≤ n → ((j : ℕ) → k ≤ j → j < n → bit j a ≡ bit j c) → (a % 2 ^ k ≡ c % 2 ^ k) ⊎ (c % 2 ^ k < a % 2 ^ k)
+  low-first zero l e = inl (mod-one a ∙ sym (mod-one c))
+  low-first (suc k) l e = go (h k l (λ j g g'. e j g g')) (λ q. low-first k (omega arith) (λ j g g'. elim (ℕ-discrete j k) [
+    | yes w ↦ rw w q
+    | no w ↦ e j (omega arith) g'
+  ]))
+    where
+      -- the result for k bits gives that for one more, where bit k is the same
+      same : bit k a ≡ bit k c → (a % 2 ^ k ≡ c % 2 ^ k) ⊎ (c % 2 ^ k < a % 2 ^ k) → (a % 2 ^ suc k ≡ c % 2 ^ suc k) ⊎ (c % 2 ^ suc k < a % 2 ^ suc k)
+      same q (inl w) = inl (low-sum k a ∙ ap₂ (λ (x y : ℕ). x * 2 ^ k + y) q w ∙ sym (low-sum k c))
+      same q (inr w) = inr (rw (low-sum k a, low-sum k c, q) (omega arith))
+
+      go : (bit k a ≡ bit k c) ⊎ (bit k c ≡ 0) → (bit k a ≡ bit k c → (a % 2 ^ k ≡ c % 2 ^ k) ⊎ (c % 2 ^ k < a % 2 ^ k))
+          → (a % 2 ^ suc k ≡ c % 2 ^ suc k) ⊎ (c % 2 ^ suc k < a % 2 ^ suc k)
+      go (inl q) f = same q (f q)
+      go (inr q) f = elim (ℕ-discrete (bit k a) 0) [
+        | yes w ↦ let e = w ∙ sym q in same e (f e)
+        | no w ↦
+            let one : bit k a ≡ 1 = let b = bit-lt k a in omega arith in
+            let high = mod-lt c (pow-pos k) in
+            inr (rw (low-sum k a, low-sum k c, q, one) (omega arith))
+      ]
+
+  bits-first : a < 2 ^ n → c < 2 ^ n → (a ≡ c) ⊎ (c < a)
+  bits-first ha hc = rw (← mod-eq-of-lt ha, ← mod-eq-of-lt hc) (low-first n (le-refl n) (λ j g g'. absurd (omega arith)))
+
 -- ---- the first p that meets the table is THE decomposition
 
 module _ {L : Layout} (z : Sizes L) (table basis : List ℕ) (inputs : length table ≡ L .inputs)
-    (st : Small (L .width) table) (sb : Small (L .width) basis) where
-  -- a p that meets the table, and THE decomposition q: where they agree after place k, they agree at k or q is 0 there
-  differs-at-free : (p q : List ℕ) → Computes L table basis p → Decomposition L table basis q → (k : ℕ) → k < L .unknowns
-      → ((j : ℕ) → k < j → j < L .unknowns → getD p j 0 ≡ getD q j 0) → (getD p k 0 ≡ getD q k 0) ⊎ (getD q k 0 ≡ 0)
-  differs-at-free p q c d k l after = elim (ℕ-discrete (getD p k 0) (getD q k 0)) [
+    (st : Small (L .outputs) table) (sb : Small (L .width) basis) where
+  -- a p that meets the table, and THE decomposition q: where their bits agree after bit number k, they agree there or q has 0
+  bit-differs-at-free : (p q : List ℕ) → Computes L table basis p → Decomposition L table basis q → (k : ℕ) → k < L .unknowns * L .width
+      → ((j : ℕ) → k < j → j < L .unknowns * L .width → bitsOf (L .width) p j ≡ bitsOf (L .width) q j)
+      → (bitsOf (L .width) p k ≡ bitsOf (L .width) q k) ⊎ (bitsOf (L .width) q k ≡ 0)
+  bit-differs-at-free p q c d k l after = elim (ℕ-discrete (bitsOf (L .width) p k) (bitsOf (L .width) q k)) [
     | yes e ↦ inl e
     | no n ↦
-        let F = laws-of (z .width) in
-        let el = system-elements z table basis sb st in
+        let rows = 2 ^ L .width * L .outputs in
+        let u = L .unknowns * L .width in
+        let M : ℕ → ℕ → ℕ = bitSystem L table basis in
+        let x : ℕ → ℕ = bitsOf (L .width) p in
+        let y : ℕ → ℕ = bitsOf (L .width) q in
+        let el : (w : ℕ) → Elements bits rows w M = bit-elements (field-of (L .width) (narrow-width (L .width) (z .width))) (L .outputs) (2 ^ L .width) (system L table basis) in
         let fp = computes-solves z table basis sb p c in
         let fq = decomposition-canonical z table basis sb q d in
-        let f : Free (scalars (L .width)) (2 ^ L .width) (system L table basis) k =
-        last-free F (2 ^ L .width) (L .unknowns) (system L table basis) (plus (scalars (L .width)) (λ j. getD p j 0) (λ j. getD q j 0)) k
-        (record { at = λ i g. small-shorter (omega arith) (el .at i g) })
-        (plus-small F (fp .small) (fq .solves .small)) l
-        (λ i g. dot-plus F (L .unknowns) (small-shorter (omega arith) (el .at i g)) (fp .small) (fq .solves .small)
-        ∙ ap₂ (scalars (L .width) .add) (fp .row i g) (fq .solves .row i g) ∙ F .add-self (system L table basis i (L .unknowns)))
-        (λ j g g'. ap (λ (v : ℕ). scalars (L .width) .add v (getD q j 0)) (after j g g') ∙ F .add-self (getD q j 0))
-        (λ e. n (sum-zero F (getD p k 0) (getD q k 0) e)) in
+        let f : Free bits rows M k =
+        last-free bit-laws rows u M (plus bits x y) k (el u) (plus-small bit-laws (fp .small) (fq .solves .small)) l
+        (λ i g. dot-plus bit-laws u (el u .at i g) (fp .small) (fq .solves .small)
+        ∙ ap₂ (bits .add) (fp .row i g) (fq .solves .row i g) ∙ bit-laws .add-self (M i u))
+        (λ j g g'. ap (λ (v : ℕ). bits .add v (y j)) (after j g g') ∙ bit-laws .add-self (y j))
+        (λ e. n (sum-zero bit-laws (x k) (y k) e)) in
         inr (fq .free k l f)
   ]
+
+  -- and where they agree after place k, they agree at k or q is smaller there
+  differs-at-free : (p q : List ℕ) → Computes L table basis p → Decomposition L table basis q → (k : ℕ) → k < L .unknowns
+      → ((j : ℕ) → k < j → j < L .unknowns → getD p j 0 ≡ getD q j 0) → (getD p k 0 ≡ getD q k 0) ⊎ (getD q k 0 < getD p k 0)
+  differs-at-free p q c d k l after =
+      bits-first n (getD p k 0) (getD q k 0)
+      (λ i g a. rw (← place p k i g, ← place q k i g)
+      (bit-differs-at-free p q c d (k * n + i) (place-within (L .unknowns) n k i l g) (λ j b b'. later i g a j b b')))
+      (c .elements k) (d .computes .elements k)
+    where
+      n : ℕ
+      n = L .width
+
+      place : (l : List ℕ) (k i : ℕ) → i < L .width → bitsOf (L .width) l (k * L .width + i) ≡ bit i (getD l k 0)
+      place l k i g = bit-of-place (L .width) (λ j. getD l j 0) k i g
+
+      -- a later bit is one of the same unknown, or one of a later unknown
+      later : (i : ℕ) → i < L .width → ((j : ℕ) → i < j → j < L .width → bit j (getD p k 0) ≡ bit j (getD q k 0))
+          → (j : ℕ) → k * L .width + i < j → j < L .unknowns * L .width → bitsOf (L .width) p j ≡ bitsOf (L .width) q j
+      later i g a j b b' =
+          let n = L .width in
+          let whole : j / n * n + j % n ≡ j = div-add-mod' j n in
+          let np : 0 < n = omega arith in
+          elim (ℕ-discrete (j / n) k) [
+            | yes e ↦ rw e (a (j % n) (let w : k * n + j % n ≡ j = rw e at whole in omega arith) (mod-lt j np))
+            | no e ↦
+                let low : k ≤ j / n = le-div-iff-mul-le np .1 (omega arith) in
+                ap (bit (j % n)) (after (j / n) (omega arith) (div-lt-iff-lt-mul np .1 b'))
+          ]
 
   -- the test of p is whether it meets the table
   meets-true : (p : List ℕ) → Computes L table basis p → meets L table basis p ≡ true
   unfolding meets
   meets-true p c =
-      let e = no-difference (form L basis p) table (λ x h. c .equal x (omega (arith, inputs, z .inputs))) in
-      le-leb (length table) (firstDifference (form L basis p) table) (omega (arith, e))
+      let f : ℕ → ℕ = λ x. form L basis p x % 2 ^ L .outputs in
+      let e = no-difference f table (λ x h. c .equal x (omega (arith, inputs, z .inputs))) in
+      le-leb (length table) (firstDifference f table) (omega (arith, e))
 
   meets-computes : (p : List ℕ) → length p ≡ L .unknowns → Small (L .width) p → meets L table basis p ≡ true → Computes L table basis p
   unfolding meets
   meets-computes p e h t = record {
     unknowns = e;
     elements = h;
-    equal = λ x g. difference-none (form L basis p) table (leb-true (length table) (firstDifference (form L basis p) table) t) x
-        (omega (arith, inputs, z .inputs));
+    equal = λ x g.
+        let f : ℕ → ℕ = λ x. form L basis p x % 2 ^ L .outputs in
+        difference-none f table (leb-true (length table) (firstDifference f table) t) x (omega (arith, inputs, z .inputs));
   }
 
   positive : 0 < L .inputs
@@ -239,12 +306,12 @@ module _ {L : Layout} (z : Sizes L) (table basis : List ℕ) (inputs : length ta
 -- ---- Fit
 
 -- EVERY CALL has an end with `IsFit`: the one defined
-pub fit-total : (n : ℕ) (c : FitCall) → IsFit n c (fitEnd n c)
+pub fit-total : (n m : ℕ) (c : FitCall) → IsFit n m c (fitEnd n m c)
 unfolding fitWork fitRecord fitOutcome solvable
-fit-total n c = go (allTests n c) refl
+fit-total n m c = go (allTests n m c) refl
   where
     L : Layout
-    L = layout n
+    L = layout n m
 
     new : List ℕ
     new = recordOf L (c .basis) (solution L (c .table) (c .basis))
@@ -269,7 +336,7 @@ fit-total n c = go (allTests n c) refl
     last : Outcome
     last = test (solvable L (c .table) (c .basis)) 4 0 (done [])
 
-    go : (T : Outcome) → allTests n c ≡ T
+    go : (T : Outcome) → allTests n m c ≡ T
         → AfterTests L c (record {
           outcome = andThen T last;
           work = written T (replicate (length (c .work)) 0) (c .work);
@@ -277,15 +344,14 @@ fit-total n c = go (allTests n c) refl
         }) T
     go (refused number place) e = (refl, refl, refl)
     go (done values) e =
-        let a = passed (known n) 1 0 _ e in
-        let z = sizes n (a .0) in
-        (refl, found z (fit-ready L c z (a .1)) (solvable L (c .table) (c .basis)) refl)
+        let a = tests-passed n m c e in
+        (refl, found (sizes n m (a .0)) (a .1) (solvable L (c .table) (c .basis)) refl)
 
 -- an end with `IsFit` is the one defined
-pub fit-end : (n : ℕ) (c : FitCall) (e : FitEnd) → IsFit n c e → e ≡ fitEnd n c
-fit-end n c e f = fit-settled n c e (fitEnd n c) f (fit-total n c)
+pub fit-end : (n m : ℕ) (c : FitCall) (e : FitEnd) → IsFit n m c e → e ≡ fitEnd n m c
+fit-end n m c e f = fit-settled n m c e (fitEnd n m c) f (fit-total n m c)
 
 -- the same where its outcome goes by another name
-pub fit-end-as : (n : ℕ) (c : FitCall) (e : FitEnd) {o : Outcome} → e .outcome ≡ o → IsFit n c e
-    → record { outcome = o; work = e .work; out = e .out } ≡ fitEnd n c
-fit-end-as n c e q f = ap (λ (o : Outcome). record { outcome = o; work = e .work; out = e .out }) (sym q) ∙ fit-end n c e f
+pub fit-end-as : (n m : ℕ) (c : FitCall) (e : FitEnd) {o : Outcome} → e .outcome ≡ o → IsFit n m c e
+    → record { outcome = o; work = e .work; out = e .out } ≡ fitEnd n m c
+fit-end-as n m c e q f = ap (λ (o : Outcome). record { outcome = o; work = e .work; out = e .out }) (sym q) ∙ fit-end n m c e f

@@ -8,7 +8,7 @@ use native.Mathlib.Numerals.{add-one}
 use native.Mathlib.Omega.{arith}
 use lib.ListN.{getD}
 use Rattle.xor.specs.Sum.{Small as SmallList}
-use Rattle.linear.specs.Buffer.{cell, from, Overwritten}
+use Rattle.linear.specs.Buffer.{cell, from, Overwritten, Written}
 use Rattle.linear.specs.Row.{Agree}
 use Rattle.linear.specs.Scalars.{scalars}
 use Rattle.linear.specs.System.{Elements}
@@ -70,9 +70,9 @@ rows-elements {L} {table} {basis} z st sb r = record {
 -- ---- bytes written one after the other
 
 -- two runs of bytes
-pub overwritten-join : {l₀ l l' : List ℕ} {a k e : ℕ} {v v' : ℕ → ℕ} → Overwritten l₀ l a k v → Overwritten l l' (a + k) e v'
-    → ((j : ℕ) → j < e → v' j ≡ v (k + j)) → Overwritten l₀ l' a (k + e) v
-overwritten-join {l₀} {l} {l'} {a} {k} {e} {v} {v'} u w h = record {
+pub overwritten-join : {f₀ f f' : ℕ → ℕ} {a k e : ℕ} {v v' : ℕ → ℕ} → Written f₀ f a k v → Written f f' (a + k) e v'
+    → ((j : ℕ) → j < e → v' j ≡ v (k + j)) → Written f₀ f' a (k + e) v
+overwritten-join {f₀} {f} {f'} {a} {k} {e} {v} {v'} u w h = record {
   new = λ j b. elim (decLt j k) [
     | yes g ↦ w .low (a + j) (omega arith) ∙ u .new j g
     | no g ↦

@@ -1,7 +1,7 @@
 -- The operation Check.
 use mathlib.Core.Bool.{cond}
 use mathlib.Core.List.{List, [], _∷_}
-use Prim.Native.Nat.{ℕ, suc}
+use Prim.Native.Nat.{ℕ, suc, _%_}
 use lib.Dec.{leb, eqb}
 use lib.ListN.{length}
 use Rattle.xor.specs.Sum.{sumOf}
@@ -9,8 +9,7 @@ use Rattle.refusal.specs.Outcome.{Outcome, done, refused, test, andThen}
 use Rattle.refusal.specs.Large.{testBelow}
 use Rattle.field.specs.Mul.{mul}
 use Rattle.decomposition.specs.Form.{form, valueOf}
-use Rattle.decomposition.specs.Layout.{layout}
-use Rattle.decomposition.specs.Record.{coefficientsOf, basisOf, solutionOf, widthOf, readOutcome}
+use Rattle.decomposition.specs.Record.{coefficientsOf, basisOf, solutionOf, layoutOf, readOutcome}
 use Rattle.decomposition.specs.declared.checking.CheckAnswer.{CheckAnswer}
 use Rattle.decomposition.specs.declared.checking.CheckAnswer.the-variants.{Done, Refused}
 use Rattle.decomposition.specs.declared.layouts.Layout.{Layout}
@@ -27,6 +26,10 @@ productsIn L coefficients x k = sumOf k (λ i. mul (L .width) (valueOf L (soluti
 abbrev pub recordForm : Layout → List ℕ → ℕ → ℕ
 recordForm L r = formIn L (coefficientsOf r)
 
+-- its output at x: the low output bits of the form
+abbrev pub recordOutput : Layout → List ℕ → ℕ → ℕ
+recordOutput L r x = recordForm L r x % L .entries
+
 -- the first input at which f and the table differ; the table's length if there is none
 unfoldable pub firstDifference : (ℕ → ℕ) → List ℕ → ℕ
 firstDifference f [] = 0
@@ -36,13 +39,13 @@ firstDifference f (y ∷ l) = cond (eqb (f 0) y) (suc (firstDifference (λ x. f 
 abbrev pub checkAt : Layout → List ℕ → List ℕ → Outcome
 checkAt L r table =
     test (eqb (length table) (L .inputs)) 2 0
-    (testBelow (L .inputs) 0 table
-    (test (leb (length table) (firstDifference (recordForm L r) table)) 6 (firstDifference (recordForm L r) table)
+    (testBelow (L .entries) 0 table
+    (test (leb (length table) (firstDifference (recordOutput L r) table)) 6 (firstDifference (recordOutput L r) table)
     (done [])))
 
 -- what Check answers
 unfoldable pub checkOutcome : List ℕ → List ℕ → Outcome
-checkOutcome r table = andThen (readOutcome r) (checkAt (layout (widthOf r)) r table)
+checkOutcome r table = andThen (readOutcome r) (checkAt (layoutOf r) r table)
 
 -- the outcome that each case of the answer stands for
 abbrev pub checkReport : CheckAnswer → Outcome

@@ -5,6 +5,9 @@ use mathlib.Core.Path.{_≡_}
 use Prim.Native.Nat.{ℕ, _+_, _*_, _≤_, _<_}
 use lib.Dec.{ltb}
 use lib.ListN.{length, getD}
+use Rattle.xor.specs.Sum.{Small}
+use Rattle.linear.specs.Bits.{bitwise}
+use Rattle.linear.specs.Packed.{bitCell}
 use Rattle.linear.specs.Buffer.{cell}
 use Rattle.linear.specs.Row.{Agree}
 use Rattle.decomposition.specs.Form.{monomial, unknownColumn}
@@ -18,6 +21,10 @@ equation L basis x v k = cond (ltb k (L .unknowns)) (unknownColumn L basis x k) 
 abbrev pub system : Layout → List ℕ → List ℕ → ℕ → ℕ → ℕ
 system L table basis x = equation L basis x (getD table x 0)
 
+-- the equations over bits: row x·m + b is the equation at input x, at its bit b
+abbrev pub bitSystem : Layout → List ℕ → List ℕ → ℕ → ℕ → ℕ
+bitSystem L table basis = bitwise (L .width) (L .outputs) (system L table basis)
+
 -- the powers of the inputs below m stand from b on, e for each input
 pub record Powers (n e m b : ℕ) (l : List ℕ) : Type 0 where
   pub at : (x j : ℕ) → x < m → j < e → getD l (b + (x * e + j)) 0 ≡ monomial n x j
@@ -25,6 +32,16 @@ pub record Powers (n e m b : ℕ) (l : List ℕ) : Type 0 where
 -- the rows below x hold their equations
 pub record Rows (L : Layout) (table basis : List ℕ) (x : ℕ) (l : List ℕ) : Type 0 where
   pub row : (y : ℕ) → y < x → Agree (L .unknowns + 1) (cell (L .unknowns + 1) l y) (system L table basis y)
+
+-- M is M₀ with the entries of G in the k columns from c on, in the m rows from `row` on: the columns before c and the rows before are as they were
+pub record BlockWritten (w : ℕ) (M₀ M : ℕ → ℕ → ℕ) (row m c k : ℕ) (G : ℕ → ℕ → ℕ) : Type 0 where
+  pub new : (b j : ℕ) → b < m → c ≤ j → j < c + k → M (row + b) j ≡ G b j
+  pub left : (i j : ℕ) → j < c → M i j ≡ M₀ i j
+  pub above : (i j : ℕ) → i < row → j < w → M i j ≡ M₀ i j
+
+-- the rows below r hold their equations over bits
+pub record BitRows (L : Layout) (table basis : List ℕ) (r : ℕ) (l : List ℕ) : Type 0 where
+  pub row : (i : ℕ) → i < r → Agree (L .unknowns * L .width + 1) (bitCell (L .stride) l i) (bitSystem L table basis i)
 
 -- what an equation needs: room at a, below the powers of its input at p
 pub record EquationReady (L : Layout) (basis l : List ℕ) (a p : ℕ) : Type 0 where
@@ -36,5 +53,20 @@ pub record EquationReady (L : Layout) (basis l : List ℕ) (a p : ℕ) : Type 0 
 pub record EquationsReady (L : Layout) (table basis l : List ℕ) : Type 0 where
   pub inputs : length table ≡ L .inputs
   pub whole : length basis ≡ L .basis
-  pub room : length l ≡ L .work
+  pub room : length l ≡ L .powers + L .inputs * L .exponents
   pub powers : Powers (L .width) (L .exponents) (L .inputs) (L .powers) l
+
+-- what the equations over bits need
+pub record BitsReady (L : Layout) (table basis l : List ℕ) : Type 0 where
+  pub inputs : length table ≡ L .inputs
+  pub whole : length basis ≡ L .basis
+  pub room : L .inputs * L .outputs * L .stride ≤ length l
+
+-- what the solution needs: room for the equations in l, and for the unknowns in p
+pub record SolveReady (L : Layout) (table basis l p : List ℕ) : Type 0 where
+  pub inputs : length table ≡ L .inputs
+  pub whole : length basis ≡ L .basis
+  pub room : length l ≡ L .work
+  pub unknowns : length p ≡ L .unknowns
+  pub entries : Small (L .outputs) table
+  pub elements : Small (L .width) basis

@@ -1,6 +1,6 @@
 -- The operations Fit and House fit.
-use mathlib.Core.Bool.{Bool, _&&_}
-use mathlib.Core.List.{List, [], _∷_, _++_}
+use mathlib.Core.Bool.{Bool, true, false, _&&_}
+use mathlib.Core.List.{List, [], _∷_}
 use mathlib.Core.Path.{_≡_}
 use Prim.Native.Nat.{ℕ}
 use lib.Dec.{eqb}
@@ -9,7 +9,7 @@ use Rattle.xor.specs.Sum.{Small}
 use Rattle.refusal.specs.Outcome.{Outcome, done, refused, test, andThen, written}
 use Rattle.refusal.specs.Large.{testBelow}
 use Rattle.decomposition.specs.Form.{Decomposition, NoDecomposition}
-use Rattle.decomposition.specs.Layout.{known, layout, recordSize}
+use Rattle.decomposition.specs.Layout.{known, paired, layout, recordSize}
 use Rattle.decomposition.specs.Record.{recordOf}
 use Rattle.decomposition.specs.Solution.{solvable, solution}
 use Rattle.decomposition.specs.declared.fitting.FitAnswer.{FitAnswer}
@@ -35,49 +35,50 @@ pub record FitEnd : Type 0 where
 
 -- ---- the tests
 
--- the lengths of table, basis, work and out: each is that of the layout
+-- the lengths of table, basis, work and out: each is that of the layout; the record is one of version 2
 unfoldable pub fitLengths : Layout → ℕ → ℕ → ℕ → ℕ → Bool
-fitLengths L table basis work out = eqb table (L .inputs) && (eqb basis (L .basis) && (eqb work (L .work) && eqb out (recordSize L)))
+fitLengths L table basis work out = eqb table (L .inputs) && (eqb basis (L .basis) && (eqb work (L .work) && eqb out (recordSize 2 L)))
 
--- the lengths, work and out being those of the work and of the record, then the entries, counted through table and basis
+-- the lengths, work and out being those of the work and of the record, then the entries of table and basis, counted through both
 abbrev pub fitTests : Layout → List ℕ → List ℕ → ℕ → ℕ → Outcome
 fitTests L table basis work out =
     test (fitLengths L (length table) (length basis) work out) 2 0
-    (testBelow (L .inputs) 0 (table ++ basis)
-    (done []))
+    (testBelow (L .entries) 0 table
+    (testBelow (L .inputs) (length table) basis
+    (done [])))
 
--- the width, and then these
-abbrev pub allTests : ℕ → FitCall → Outcome
-allTests n c = test (known n) 1 0 (fitTests (layout n) (c .table) (c .basis) (length (c .work)) (length (c .out)))
+-- the width, the output bits, and then these
+abbrev pub allTests : ℕ → ℕ → FitCall → Outcome
+allTests n m c = test (known n) 1 0 (test (paired n m) 9 0 (fitTests (layout n m) (c .table) (c .basis) (length (c .work)) (length (c .out))))
 
 -- what holds where all are passed
 pub record FitReady (L : Layout) (c : FitCall) : Type 0 where
   pub inputs : length (c .table) ≡ L .inputs
   pub whole : length (c .basis) ≡ L .basis
   pub room : length (c .work) ≡ L .work
-  pub record-room : length (c .out) ≡ recordSize L
-  pub entries : Small (L .width) (c .table)
+  pub record-room : length (c .out) ≡ recordSize 2 L
+  pub entries : Small (L .outputs) (c .table)
   pub elements : Small (L .width) (c .basis)
 
--- ---- Fit (width, table, basis, work, record out)
+-- ---- Fit (width, output bits, table, basis, work, record out)
 
 -- the outcome: after the tests, 4 if no p meets the table
-unfoldable pub fitOutcome : ℕ → FitCall → Outcome
-fitOutcome n c = andThen (allTests n c) (test (solvable (layout n) (c .table) (c .basis)) 4 0 (done []))
+unfoldable pub fitOutcome : ℕ → ℕ → FitCall → Outcome
+fitOutcome n m c = andThen (allTests n m c) (test (solvable (layout n m) (c .table) (c .basis)) 4 0 (done []))
 
 -- what the work holds in the end: where the tests are passed it is all zero
-unfoldable pub fitWork : ℕ → FitCall → List ℕ
-fitWork n c = written (allTests n c) (replicate (length (c .work)) 0) (c .work)
+unfoldable pub fitWork : ℕ → ℕ → FitCall → List ℕ
+fitWork n m c = written (allTests n m c) (replicate (length (c .work)) 0) (c .work)
 
 -- what out holds in the end: on success the record of the basis and of the p found
-unfoldable pub fitRecord : ℕ → FitCall → List ℕ
-fitRecord n c = written (fitOutcome n c) (recordOf (layout n) (c .basis) (solution (layout n) (c .table) (c .basis))) (c .out)
+unfoldable pub fitRecord : ℕ → ℕ → FitCall → List ℕ
+fitRecord n m c = written (fitOutcome n m c) (recordOf (layout n m) (c .basis) (solution (layout n m) (c .table) (c .basis))) (c .out)
 
--- the end of a call at width n: the contract of Fit equates with it
-abbrev pub fitEnd : ℕ → FitCall → FitEnd
-fitEnd n c = record { outcome = fitOutcome n c; work = fitWork n c; out = fitRecord n c }
+-- the end of a call at width n with m output bits: the contract of Fit equates with it
+abbrev pub fitEnd : ℕ → ℕ → FitCall → FitEnd
+fitEnd n m c = record { outcome = fitOutcome n m c; work = fitWork n m c; out = fitRecord n m c }
 
--- ---- House fit (table, work, record out): a fit of width 4 over the house basis
+-- ---- House fit (table, work, record out): a fit of width 4 with 4 output bits over the house basis
 
 -- the house basis: q1 = x + x² + x^12
 unfoldable pub houseBasis : List ℕ
@@ -114,9 +115,16 @@ abbrev pub AfterTests : Layout → FitCall → FitEnd → Outcome → Type 0
 AfterTests L c e (refused number place) = (e .outcome ≡ refused number place) × (e .work ≡ c .work) × (e .out ≡ c .out)
 AfterTests L c e (done values) = (e .work ≡ replicate (length (c .work)) 0) × Found L c (e .out) (e .outcome)
 
--- the call c at width n may end so
-abbrev pub IsFit : ℕ → FitCall → FitEnd → Type 0
-IsFit n c e = AfterTests (layout n) c e (allTests n c)
+-- the call c at width n with m output bits may end so
+abbrev pub IsFit : ℕ → ℕ → FitCall → FitEnd → Type 0
+IsFit n m c e = AfterTests (layout n m) c e (allTests n m c)
+
+-- ---- inner contracts
+
+-- what the solution of the equations comes to. true: p′ is THE decomposition. false: no p meets the table, and nothing is written
+abbrev pub Decomposed : Layout → List ℕ → List ℕ → List ℕ → List ℕ → Bool → Type 0
+Decomposed L table basis p p′ true = Decomposition L table basis p′
+Decomposed L table basis p p′ false = NoDecomposition L table basis × (p′ ≡ p)
 
 -- ---- answers
 

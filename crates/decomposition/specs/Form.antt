@@ -10,6 +10,7 @@ use Rattle.xor.specs.Xor.{_⊕_}
 use Rattle.field.specs.Mul.{mul}
 use Rattle.field.specs.Polynomial.{exponents, value}
 use Rattle.field.specs.Power.{pow}
+use Rattle.linear.specs.Bits.{bits, bitOf, bitwise}
 use Rattle.linear.specs.Scalars.{scalars}
 use Rattle.linear.specs.System.{Free}
 use Rattle.decomposition.specs.declared.layouts.Layout.{Layout}
@@ -32,11 +33,11 @@ valueOf L coefficients i x = value (L .width) (polynomialIn L coefficients i) x
 unfoldable pub form : Layout → List ℕ → List ℕ → ℕ → ℕ
 form L basis p x = formOfValues (L .width) (L .terms - 1) (λ i. valueOf L basis i x) (λ i. valueOf L p i x)
 
--- p meets the table: with it the form computes the table, at all inputs
+-- p meets the table: with it the low output bits of the form are those of the table, at all inputs
 pub record Computes (L : Layout) (table basis p : List ℕ) : Type 0 where
   pub unknowns : length p ≡ L .unknowns
   pub elements : Small (L .width) p
-  pub equal : (x : ℕ) → x < 2 ^ L .width → form L basis p x ≡ getD table x 0
+  pub equal : (x : ℕ) → x < 2 ^ L .width → form L basis p x % 2 ^ L .outputs ≡ getD table x 0
 
 -- ---- THE decomposition
 
@@ -53,15 +54,29 @@ monomial n x j = pow n x (getD (exponents n) j 0)
 unfoldable pub unknownColumn : Layout → List ℕ → ℕ → ℕ → ℕ
 unknownColumn L basis x k = mul (L .width) (factor L basis (k / L .exponents) x) (monomial (L .width) x (k % L .exponents))
 
--- unknown k is free: its column of 2 ^ n values is a combination of earlier columns
-abbrev pub FreeUnknown : Layout → List ℕ → ℕ → Type 0
-FreeUnknown L basis k = Free (scalars (L .width)) (2 ^ L .width) (unknownColumn L basis) k
+-- Each unknown is solved for by its bits, bit 0 first: bit number k·n + i is bit i of unknown k. What it is multiplied with at an input is y ^ i times
+-- the column of unknown k there, and of this the output bits count: a column of 2 ^ n · m bits. A bit is free if its column is a combination of earlier columns
+abbrev pub FreeBit : Layout → List ℕ → ℕ → Type 0
+FreeBit L basis c = Free bits (2 ^ L .width * L .outputs) (bitwise (L .width) (L .outputs) (unknownColumn L basis)) c
 
--- p is THE decomposition: it meets the table, and free unknowns are 0
+-- p is THE decomposition: it meets the table, and free bits are 0
 pub record Decomposition (L : Layout) (table basis p : List ℕ) : Type 0 where
   pub computes : Computes L table basis p
-  pub free : (k : ℕ) → k < L .unknowns → FreeUnknown L basis k → getD p k 0 ≡ 0
+  pub free : (c : ℕ) → c < L .unknowns * L .width → FreeBit L basis c → bitOf (L .width) (λ k. getD p k 0) c ≡ 0
 
 -- no p meets the table
 pub record NoDecomposition (L : Layout) (table basis : List ℕ) : Type 0 where
   pub never : (p : List ℕ) → Computes L table basis p → ⊥
+
+-- ---- where all bits of the form count: the decomposition over elements, which is the same (proofs/Theorems.antt, `equal-widths`)
+
+-- unknown k is free: its column of 2 ^ n values is a combination of earlier columns
+abbrev pub FreeUnknown : Layout → List ℕ → ℕ → Type 0
+FreeUnknown L basis k = Free (scalars (L .width)) (2 ^ L .width) (unknownColumn L basis) k
+
+-- the form with p is the table, and free unknowns are 0
+pub record ElementDecomposition (L : Layout) (table basis p : List ℕ) : Type 0 where
+  pub unknowns : length p ≡ L .unknowns
+  pub elements : Small (L .width) p
+  pub equal : (x : ℕ) → x < 2 ^ L .width → form L basis p x ≡ getD table x 0
+  pub free : (k : ℕ) → k < L .unknowns → FreeUnknown L basis k → getD p k 0 ≡ 0

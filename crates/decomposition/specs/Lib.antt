@@ -5,3 +5,4 @@ pub mod Check
 pub mod Solution
 pub mod Fit
 pub mod Equations
+pub mod Reach

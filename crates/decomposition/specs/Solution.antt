@@ -1,6 +1,6 @@
 -- The p that Fit finds, as a definition: all p are tried in order, and the first that meets the table is taken.
--- A list of u elements below b is a number of u digits, the first element its lowest digit. The order of these numbers goes by the last element first; so
--- the first p that meets the table is 0 wherever an unknown is free, and is THE decomposition (proofs/Total.antt, `solution-is`).
+-- A list of u elements below b is a number of u digits, the first element its lowest digit. The order of these numbers goes by the last element first, and
+-- by its highest bit first; so the first p that meets the table is 0 wherever a bit is free, and is THE decomposition (proofs/Total.antt, `solution-is`).
 use mathlib.Core.Bool.{Bool, cond}
 use mathlib.Core.List.{List, [], _∷_}
 use Prim.Native.Nat.{ℕ, zero, suc, _/_, _%_, _^_}
@@ -20,9 +20,9 @@ unfoldable pub firstBelow : ℕ → (ℕ → Bool) → ℕ
 firstBelow zero P = 0
 firstBelow (suc bound) P = cond (P 0) 0 (suc (firstBelow bound (λ k. P (suc k))))
 
--- does the form with p equal the table at all inputs?
+-- do the low output bits of the form with p equal the table at all inputs?
 unfoldable pub meets : Layout → List ℕ → List ℕ → List ℕ → Bool
-meets L table basis p = leb (length table) (firstDifference (form L basis p) table)
+meets L table basis p = leb (length table) (firstDifference (λ x. form L basis p x % 2 ^ L .outputs) table)
 
 -- how many p there are: each unknown is one of 2 ^ n elements, as many as there are inputs
 unfoldable pub candidates : Layout → ℕ

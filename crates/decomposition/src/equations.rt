@@ -1,4 +1,4 @@
-// The equations of Fit in its work: a row for each input, and after the rows the powers of the inputs.
+// The equations of Fit at equal widths, in its work: a row for each input, and after the rows the powers of the inputs.
 ghost use mathlib.Core.Path.{_≡_};
 ghost use Prim.Native.Nat.{ℕ, _+_, _*_, _<_, _≤_};
 ghost use lib.ListN.{length};
@@ -16,7 +16,7 @@ use crate::polynomial::power_row;
 // Writes the powers of the inputs.
 pub fn powers(layout: Layout, work: &mut [u8])
     requires { ⌜ Sizes layout ⌝ }
-    requires { ⌜ length (now work) ≡ layout .work ⌝ }
+    requires { ⌜ length (now work) ≡ layout .powers + layout .inputs * layout .exponents ⌝ }
     ensures { λ _. ⌜ Powers (layout .width) (layout .exponents) (layout .inputs) (layout .powers) (now (work .exit)) ⌝ }
 {
     let width = layout.width;
@@ -45,7 +45,7 @@ fn multiple(width: u32, count: usize, work: &mut [u8], a: usize, p: usize, f: u8
 }
 
 // What polynomial i is multiplied with at the input whose powers stand at p: the polynomial of the basis, and 1 for the last.
-fn factor_at(layout: Layout, basis: &[u8], i: usize, work: &[u8], p: usize) -> u8
+pub fn factor_at(layout: Layout, basis: &[u8], i: usize, work: &[u8], p: usize) -> u8
     requires { ⌜ Sizes layout ⌝ }
     requires { ⌜ (length (now basis) ≡ layout .basis) × (i < layout .terms) × (p + layout .exponents ≤ length (now work)) ⌝ }
     ensures { λ r. ⌜ ((x : ℕ) → Agree (layout .exponents) (from (now (work .entry)) p) (monomial (layout .width) x)

@@ -3,15 +3,15 @@ ghost use mathlib.Core.Path.{_≡_};
 ghost use Prim.Native.Nat.{_+_, _≤_};
 ghost use lib.ListN.{length, drop, replicate};
 ghost use Rattle.refusal.specs.Outcome.{refused};
-ghost use Rattle.decomposition.specs.Layout.{head, Sizes};
+ghost use Rattle.decomposition.specs.Layout.{Sizes};
 ghost use Rattle.decomposition.specs.Record.{headed};
 ghost use Rattle.decomposition.specs.Fit.{fitLengths, fitTests, FitReady, fitEnd, houseCall, Found, AfterTests, fitReport, houseFitReport};
-use crate::equations::equations;
-use crate::equations::powers;
+use crate::decomposing::decompose;
 use crate::layouts::HEAD;
 use crate::layouts::Layout;
 use crate::layouts::known;
 use crate::layouts::layout_of;
+use crate::layouts::paired;
 use refusal::first_large;
 
 // The answer of Fit.
@@ -47,17 +47,18 @@ impl HouseFitAnswer {
 // The house basis of width 4: q1 = x + x² + x^12.
 const HOUSE_BASIS: [u8; 9] = [0, 1, 1, 0, 0, 0, 0, 1, 0];
 
-// Writes the mark, the version, the width and the basis.
-fn write_head(width: u32, basis: &[u8], out: &mut [u8])
-    requires { ⌜ (width ≤ 8) × (head + length (now basis) ≤ length (now out)) ⌝ }
-    ensures { λ _. ⌜ now (out .exit) ≡ headed width (now (basis .entry)) (drop (head + length (now (basis .entry))) (now (out .entry))) ⌝ }
+// Writes the mark, the version, the width, the output bits and the basis.
+fn write_head(width: u32, outputs: u32, basis: &[u8], out: &mut [u8])
+    requires { ⌜ (width ≤ 8) × (outputs ≤ 8) × (7 + length (now basis) ≤ length (now out)) ⌝ }
+    ensures { λ _. ⌜ now (out .exit) ≡ headed width outputs (now (basis .entry)) (drop (7 + length (now (basis .entry))) (now (out .entry))) ⌝ }
 {
     out[0] = b'D';
     out[1] = b'C';
     out[2] = b'P';
     out[3] = 0;
-    out[4] = 1;
+    out[4] = 2;
     out[5] = width as u8;
+    out[6] = outputs as u8;
     let mut i = 0;
     while i < basis.len() {
         out[HEAD + i] = basis[i];
@@ -74,20 +75,11 @@ fn find(layout: Layout, table: &[u8], basis: &[u8], work: &mut [u8], out: &mut [
         (record { table = now (table .entry); basis = now (basis .entry); work = now (work .entry); out = now (out .entry) })
         (now (out .exit)) (fitReport r) ⌝ }
 {
-    let width = layout.width;
     let start = HEAD + layout.basis;
-    powers(layout, work);
-    equations(layout, table, basis, work);
-    let solved = linear::solve(
-        width,
-        work,
-        layout.unknowns,
-        layout.inputs,
-        &mut out[start..],
-    );
+    let solved = decompose(layout, table, basis, work, &mut out[start..]);
     linear::zero(work);
     if solved {
-        write_head(width, basis, out);
+        write_head(layout.width, layout.outputs, basis, out);
         return FitAnswer::Done;
     }
     FitAnswer::refuse(4, 0)
@@ -110,7 +102,7 @@ fn lengths_fit(layout: Layout, table: usize, basis: usize, work: usize, out: usi
     out == HEAD + layout.coefficients
 }
 
-// Fit's tests once the width is known: Done where all are passed. Work and out are the lengths of the work and the record.
+// Fit's tests once width and output bits are known: Done where all are passed. Work and out are the lengths of the work and the record.
 fn fit_tests(layout: Layout, table: &[u8], basis: &[u8], work: usize, out: usize) -> FitAnswer
     requires { ⌜ Sizes layout ⌝ }
     ensures { λ r. ⌜ fitReport r ≡ fitTests layout (now (table .entry)) (now (basis .entry)) work out ⌝ }
@@ -118,18 +110,18 @@ fn fit_tests(layout: Layout, table: &[u8], basis: &[u8], work: usize, out: usize
     if !lengths_fit(layout, table.len(), basis.len(), work, out) {
         return FitAnswer::refuse(2, 0);
     }
-    let i = first_large(layout.inputs as u8, table);
+    let i = first_large(layout.entries as u8, table);
     if i < table.len() {
         return FitAnswer::refuse(3, i);
     }
     let j = first_large(layout.inputs as u8, basis);
     if j < basis.len() {
-        return FitAnswer::refuse(3, i + j);
+        return FitAnswer::refuse(3, table.len() + j);
     }
     FitAnswer::Done
 }
 
-// Fit once the width is known.
+// Fit once width and output bits are known.
 fn fit_at(layout: Layout, table: &[u8], basis: &[u8], work: &mut [u8], out: &mut [u8]) -> FitAnswer
     requires { ⌜ Sizes layout ⌝ }
     ensures { λ r. ⌜ AfterTests layout
@@ -144,24 +136,34 @@ fn fit_at(layout: Layout, table: &[u8], basis: &[u8], work: &mut [u8], out: &mut
     }
 }
 
-// Fit: writes the record of THE decomposition of a table over a basis.
-pub fn fit(width: u32, table: &[u8], basis: &[u8], work: &mut [u8], out: &mut [u8]) -> FitAnswer
+// Fit: writes the record of THE decomposition of a table with so many output bits over a basis.
+pub fn fit(
+    width: u32,
+    outputs: u32,
+    table: &[u8],
+    basis: &[u8],
+    work: &mut [u8],
+    out: &mut [u8],
+) -> FitAnswer
     ensures { λ r. ⌜ record { outcome = fitReport r; work = now (work .exit); out = now (out .exit) }
-        ≡ fitEnd width (record { table = now (table .entry); basis = now (basis .entry); work = now (work .entry); out = now (out .entry) }) ⌝ }
+        ≡ fitEnd width outputs (record { table = now (table .entry); basis = now (basis .entry); work = now (work .entry); out = now (out .entry) }) ⌝ }
 {
     if !known(width) {
         return FitAnswer::refuse(1, 0);
     }
-    fit_at(layout_of(width), table, basis, work, out)
+    if !paired(width, outputs) {
+        return FitAnswer::refuse(9, 0);
+    }
+    fit_at(layout_of(width, outputs), table, basis, work, out)
 }
 
-// House fit: a fit of width 4 over the house basis.
+// House fit: a fit of width 4 with 4 output bits over the house basis.
 pub fn house_fit(table: &[u8], work: &mut [u8], out: &mut [u8]) -> HouseFitAnswer
     ensures { λ r. ⌜ record { outcome = houseFitReport r; work = now (work .exit); out = now (out .exit) }
-        ≡ fitEnd 4 (houseCall (now (table .entry)) (now (work .entry)) (now (out .entry))) ⌝ }
+        ≡ fitEnd 4 4 (houseCall (now (table .entry)) (now (work .entry)) (now (out .entry))) ⌝ }
 {
     let basis = HOUSE_BASIS;
-    let answer = fit_at(layout_of(4), table, &basis, work, out);
+    let answer = fit_at(layout_of(4, 4), table, &basis, work, out);
     match answer {
         FitAnswer::Refused { number, place } => HouseFitAnswer::refuse(number, place),
         FitAnswer::Done => HouseFitAnswer::Done,

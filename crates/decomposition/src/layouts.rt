@@ -1,16 +1,26 @@
-// The widths, and how things lie in bytes at each.
+// The pairs of width and output bits, and how things lie in bytes at each.
 ghost use mathlib.Core.Path.{_≡_};
 ghost use Rattle.decomposition.specs.Layout as spec;
-ghost use Rattle.decomposition.specs.Layout.{Known};
+ghost use Rattle.decomposition.specs.Layout.{Pair};
 
-// The bytes of a record's head.
-pub const HEAD: usize = 6;
+// The bytes of the head of a record of version 2: the mark, the version, the width and the output bits.
+pub const HEAD: usize = 7;
+
+// The bytes of the head of a record of version 1, which names no output bits.
+pub const SHORT_HEAD: usize = 6;
+
+// The bytes of an equation over bits, at the one pair of other widths. The solver is told the number and no variable: it adds whole rows.
+pub const ROW: usize = 43;
 
 // How the coefficients of a record and the work of Fit lie in bytes.
 pub struct Layout {
     pub width: u32,
+    // the output bits of the table
+    pub outputs: u32,
     // 2 ^ width
     pub inputs: usize,
+    // 2 ^ outputs
+    pub entries: usize,
     // the coefficients of a polynomial
     pub exponents: usize,
     // the polynomials p1 to pt; the basis has one less
@@ -21,8 +31,10 @@ pub struct Layout {
     pub basis: usize,
     // the coefficients of a record: the basis, then p1 to pt
     pub coefficients: usize,
-    // where the powers of the inputs begin in the work
+    // where the powers of the inputs begin in the work, at equal widths
     pub powers: usize,
+    // the bytes of an equation over bits, at other widths
+    pub stride: usize,
     // the bytes of the work
     pub work: usize,
 }
@@ -34,34 +46,62 @@ pub fn known(width: u32) -> bool
     width == 4 || width == 6
 }
 
-// The layout for a width.
-pub fn layout_of(width: u32) -> Layout
-    requires { ⌜ Known width ⌝ }
-    ensures { λ r. ⌜ r ≡ spec.layout width ⌝ }
+// Whether so many output bits pair with the width.
+pub fn paired(width: u32, outputs: u32) -> bool
+    ensures { λ r. ⌜ r ≡ spec.paired width outputs ⌝ }
+{
+    outputs == width || (width == 6 && outputs == 4)
+}
+
+// The layout for a width and its output bits.
+pub fn layout_of(width: u32, outputs: u32) -> Layout
+    requires { ⌜ Pair width outputs ⌝ }
+    ensures { λ r. ⌜ r ≡ spec.layout width outputs ⌝ }
 {
     if width == 4 {
-        Layout {
+        return Layout {
             width: 4,
+            outputs: 4,
             inputs: 16,
+            entries: 16,
             exponents: 9,
             terms: 2,
             unknowns: 18,
             basis: 9,
             coefficients: 27,
             powers: 304,
+            stride: 10,
             work: 448,
-        }
-    } else {
-        Layout {
+        };
+    }
+    if outputs == 6 {
+        return Layout {
             width: 6,
+            outputs: 6,
             inputs: 64,
+            entries: 64,
             exponents: 19,
             terms: 4,
             unknowns: 76,
             basis: 57,
             coefficients: 133,
             powers: 4928,
+            stride: 58,
             work: 6144,
-        }
+        };
+    }
+    Layout {
+        width: 6,
+        outputs: 4,
+        inputs: 64,
+        entries: 16,
+        exponents: 19,
+        terms: 3,
+        unknowns: 57,
+        basis: 38,
+        coefficients: 95,
+        powers: 3712,
+        stride: ROW,
+        work: 11008,
     }
 }

@@ -1,23 +1,23 @@
--- A matrix in a buffer of bytes: rows of w bytes, one after the other.
+-- A matrix in a memory: rows of w entries, one after the other.
 use mathlib.Core.List.{List}
 use mathlib.Core.Logic.{_⊎_, inl, inr, ⊎-elim}
-use mathlib.Core.Path.{_≡_, refl, _∙_}
+use mathlib.Core.Path.{_≡_, refl, ap, _∙_}
 use Prim.Native.Nat.{ℕ, _+_, _*_, _≤_, _<_}
 use native.Mathlib.Decide.{ℕ-discrete, decLt}
 use native.Mathlib.Nat.{le-refl, suc-mul, mul-le-mul-right}
 use native.Mathlib.Omega.{arith}
-use lib.ListN.{length, getD, set}
+use lib.ListN.{length, set}
 use lib.Seq.{getD-set-same, getD-set-other}
-use Rattle.linear.specs.Buffer.{Overwritten, cell}
+use Rattle.linear.specs.Buffer.{Overwritten, Written, bytes, inRows}
 use Rattle.linear.specs.Row.{Agree}
 
 pub overwritten-none : (l : List ℕ) (a : ℕ) (v : ℕ → ℕ) → Overwritten l l a 0 v
 overwritten-none l a v = record { new = λ j h. absurd (omega arith); low = λ j h. refl; high = λ j h. refl }
 
 -- one more byte is written
-pub overwritten-more : {l₀ l : List ℕ} {a k : ℕ} {v : ℕ → ℕ} → Overwritten l₀ l a k v → a + k < length l → (x : ℕ) → x ≡ v k
-    → Overwritten l₀ (set l (a + k) x) a (k + 1) v
-overwritten-more {l₀} {l} {a} {k} {v} u b x e = record {
+pub overwritten-more : {f₀ : ℕ → ℕ} {a k : ℕ} {v : ℕ → ℕ} (l : List ℕ) → Written f₀ (bytes l) a k v → a + k < length l → (x : ℕ) → x ≡ v k
+    → Written f₀ (bytes (set l (a + k) x)) a (k + 1) v
+overwritten-more {f₀} {a} {k} {v} l u b x e = record {
   new = λ j h. elim (ℕ-discrete j k) [
     | yes q ↦ rw q (getD-set-same l (a + k) x 0 b ∙ e)
     | no n ↦ getD-set-other l (a + k) (a + j) x 0 (λ z. n (omega arith)) ∙ u .new j (omega arith)
@@ -27,18 +27,12 @@ overwritten-more {l₀} {l} {a} {k} {v} u b x e = record {
 }
 
 -- the same values by another name
-pub overwritten-values : {l₀ l : List ℕ} {a k : ℕ} {v v' : ℕ → ℕ} → Overwritten l₀ l a k v → ((j : ℕ) → j < k → v j ≡ v' j) → Overwritten l₀ l a k v'
+pub overwritten-values : {f₀ f : ℕ → ℕ} {a k : ℕ} {v v' : ℕ → ℕ} → Written f₀ f a k v → ((j : ℕ) → j < k → v j ≡ v' j) → Written f₀ f a k v'
 overwritten-values u h = record { new = λ j b. u .new j b ∙ h j b; low = u .low; high = u .high }
 
--- one more byte is copied
-pub agree-set : (l : List ℕ) {k : ℕ} {v : ℕ → ℕ} → Agree k (λ j. getD l j 0) v → k < length l → (x : ℕ) → x ≡ v k
-    → Agree (k + 1) (λ j. getD (set l k x) j 0) v
-agree-set l {k} a b x e = record {
-  at = λ j h. elim (ℕ-discrete j k) [
-    | yes q ↦ rw q (getD-set-same l k x 0 b ∙ e)
-    | no n ↦ getD-set-other l k j x 0 n ∙ a .at j (omega arith)
-  ];
-}
+-- what is written from the start on
+pub overwritten-first : {f₀ f v : ℕ → ℕ} {k : ℕ} → Written f₀ f 0 k v → Agree k f v
+overwritten-first {f = f} u = record { at = λ j h. let e : j ≡ 0 + j = omega arith in ap f e ∙ u .new j h }
 
 -- ---- rows by their number
 
@@ -54,9 +48,9 @@ rows-apart w i j n = elim (decLt i j) [
 ]
 
 -- a row that is written leaves the others as they were
-pub overwritten-other : {l₀ l : List ℕ} {v : ℕ → ℕ} (w i j : ℕ) → Overwritten l₀ l (i * w) w v → (j ≡ i → ⊥) → Agree w (cell w l j) (cell w l₀ j)
+pub overwritten-other : {f₀ f v : ℕ → ℕ} (w i j : ℕ) → Written f₀ f (i * w) w v → (j ≡ i → ⊥) → Agree w (inRows w f j) (inRows w f₀ j)
 overwritten-other w i j u n =
     record { at = λ k h. ⊎-elim (λ g. u .low (j * w + k) (omega arith)) (λ g. u .high (j * w + k) (omega arith)) (rows-apart w j i n) }
 
-pub overwritten-row : {l₀ l : List ℕ} {v : ℕ → ℕ} (w i : ℕ) → Overwritten l₀ l (i * w) w v → Agree w (cell w l i) v
+pub overwritten-row : {f₀ f v : ℕ → ℕ} (w i : ℕ) → Written f₀ f (i * w) w v → Agree w (inRows w f i) v
 overwritten-row w i u = record { at = u .new }

@@ -8,14 +8,13 @@ use native.Mathlib.Nat.{le-refl}
 use native.Mathlib.Omega.{arith}
 use lib.Dec.{eqb}
 use borrow.Author.Tests.{eq-eqb, ne-eqb}
-use Rattle.linear.specs.Elimination.{Cleared, Eliminated, LeadingAt, Pivot, PivotAdded, Reduced}
+use Rattle.linear.specs.Elimination.{Cleared, Eliminated, LeadingAt, Pivot, Reduced, RowAdded}
 use Rattle.linear.specs.Row.{Agree, plus, times}
 use Rattle.linear.specs.Scalars.{ScalarLaws, Scalars}
 use Rattle.linear.specs.System.{Canonical, Elements, Inconsistent}
 use Rattle.linear.proofs.ReadOff.{find-row, leading-apart, read-off-canonical, read-off-none}
-use Rattle.linear.proofs.Reduced.{equivalent-refl, reduced-start}
 use Rattle.linear.proofs.RowOperations.{Scaled}
-use Rattle.linear.proofs.Steps.{step-cleared, step-none, step-pivot-added, step-scaled}
+use Rattle.linear.proofs.Steps.{eliminated-start, step-cleared, step-none, step-pivot-added, step-scaled}
 
 -- the pivot of a column is found row by row: the rows from r to t have zeros there, and k rows are left
 find-pivot : (m c r : ℕ) (M : ℕ → ℕ → ℕ) (t k : ℕ) → r ≤ t → t + k ≡ m → ((i : ℕ) → r ≤ i → i < t → M i c ≡ 0) → (p : ℕ) × Pivot m c r p M
@@ -46,7 +45,7 @@ agree-refl : (w : ℕ) (r : ℕ → ℕ) → Agree w r r
 agree-refl w r = record { at = λ j l. refl }
 
 module _ {S : Scalars} (F : ScalarLaws S) (m w : ℕ) where
-  pivot-added : (r p : ℕ) (M : ℕ → ℕ → ℕ) → (N : ℕ → ℕ → ℕ) × PivotAdded S m w r p M N
+  pivot-added : (r p : ℕ) (M : ℕ → ℕ → ℕ) → (N : ℕ → ℕ → ℕ) × RowAdded S m w 1 r p M N
   pivot-added r p M = elim (ℕ-discrete p r) [
     | yes e ↦ (M, record { row = λ n. absurd (n e); itself = λ _. agree-refl w (M r); others = λ i l n. agree-refl w (M i) })
     | no ne ↦
@@ -90,7 +89,7 @@ module _ {S : Scalars} (F : ScalarLaws S) (m w : ℕ) where
 
   -- every matrix is reduced by the elimination
   pub eliminated-exists : (M : ℕ → ℕ → ℕ) → Elements S m w M → (c : ℕ) → c ≤ w → (N : ℕ → ℕ → ℕ) × (r : ℕ) × Eliminated S m w M N c r
-  eliminated-exists M el zero h = (M, 0, record { elements = el; equivalent = equivalent-refl S m w M; reduced = reduced-start m M })
+  eliminated-exists M el zero h = (M, 0, eliminated-start M el)
   eliminated-exists M el (suc c) h =
       let e = eliminated-exists M el c (omega arith) in
       column c (e .1) M (e .0) h (e .2)

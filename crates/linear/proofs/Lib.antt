@@ -7,5 +7,8 @@ pub mod Elimination
 pub mod Steps
 pub mod ReadOff
 pub mod Exists
+pub mod Bits
+pub mod Bitwise
 pub mod Buffer
+pub mod Packed
 pub mod Turns

@@ -4,17 +4,21 @@ use Prim.Native.Nat.{ℕ, suc, _≤_, _<_}
 use native.Mathlib.Decide.{ℕ-discrete}
 use native.Mathlib.Nat.{le-refl}
 use native.Mathlib.Omega.{arith}
-use Rattle.linear.specs.Elimination.{Eliminated, Cleared, Pivot, PivotAdded}
+use Rattle.linear.specs.Elimination.{Eliminated, Cleared, Pivot, RowAdded}
 use Rattle.linear.specs.Scalars.{Scalars, ScalarLaws}
 use Rattle.linear.specs.System.{Elements}
 use Rattle.linear.proofs.Elimination.{eliminated-added, eliminated-scaled}
-use Rattle.linear.proofs.Reduced.{equivalent-trans, equivalent-refl, reduced-skip, reduced-grow}
+use Rattle.linear.proofs.Reduced.{equivalent-trans, equivalent-refl, reduced-start, reduced-skip, reduced-grow}
 use Rattle.linear.proofs.Row.{zero-below, zero-mul, zero-add, one-mul}
 use Rattle.linear.proofs.RowOperations.{MultiplesAdded, Scaled}
 
 pub cleared-none : (S : Scalars) (m w c r : ℕ) (M : ℕ → ℕ → ℕ) → Cleared S m w c r 0 M M
 cleared-none S m w c r M =
     record { kept = record { at = λ j l. refl }; cleared = λ i l. absurd (omega arith); rest = λ i g l. record { at = λ j b. refl } }
+
+-- nothing is done at the start
+pub eliminated-start : {S : Scalars} {m w : ℕ} (M : ℕ → ℕ → ℕ) → Elements S m w M → Eliminated S m w M M 0 0
+eliminated-start {S} {m} {w} M el = record { elements = el; equivalent = equivalent-refl S m w M; reduced = reduced-start m M }
 
 -- a matrix that is reduced so far is on its own way
 pub eliminated-self : {S : Scalars} {m w c r : ℕ} {M N : ℕ → ℕ → ℕ} → Eliminated S m w M N c r → Eliminated S m w N N c r
@@ -26,7 +30,7 @@ eliminated-trans h g = record { elements = g .elements; equivalent = equivalent-
 
 module _ {S : Scalars} (F : ScalarLaws S) where
   -- adding the pivot row adds a multiple of it to each other row: 1 or 0
-  pivot-added-all : {m w r p : ℕ} {M N : ℕ → ℕ → ℕ} → Elements S m w M → p < m → (p ≡ r → ⊥) → PivotAdded S m w r p M N → MultiplesAdded S m w p M N
+  pivot-added-all : {m w r p : ℕ} {M N : ℕ → ℕ → ℕ} → Elements S m w M → p < m → (p ≡ r → ⊥) → RowAdded S m w 1 r p M N → MultiplesAdded S m w p M N
   pivot-added-all {m} {w} {r} {p} {M} {N} el pm n x = record {
     kept = x .others p pm n;
     others = λ i l ne. elim (ℕ-discrete i r) [
@@ -57,7 +61,7 @@ module _ {S : Scalars} (F : ScalarLaws S) where
               (λ i a b. pv .skipped i a (omega (arith, pv .within)));
         }
 
-    module _ (pm : p < m) (N : ℕ → ℕ → ℕ) (x : PivotAdded S m w r p M N) where
+    module _ (pm : p < m) (N : ℕ → ℕ → ℕ) (x : RowAdded S m w 1 r p M N) where
       rm : r < m
       rm = omega (arith, pv .after)
 

@@ -84,11 +84,11 @@ pub inconsistent-rows : {S : Scalars} {m w u : ℕ} {M N : ℕ → ℕ → ℕ} 
     → Inconsistent S m M u → Inconsistent S m N u
 inconsistent-rows l a f = record { never = λ p c. f .never p (combination-rows l (λ i b. agree-sym (a i b)) c) }
 
-pub canonical-agree : {S : Scalars} {m u : ℕ} {M : ℕ → ℕ → ℕ} {p q : ℕ → ℕ} → Agree u p q → Canonical S m M u p → Canonical S m M u q
-canonical-agree {S} {u = u} {M = M} a f = record {
-  solves = record {
-    small = record { at = λ j l. rw (← a .at j l) (f .solves .small .at j l) };
-    row = λ i h. dot-agree S u {r = M i} (record { at = λ j l. refl }) (agree-sym a) ∙ f .solves .row i h;
-  };
-  free = λ k l g. sym (a .at k l) ∙ f .free k l g;
+pub combination-agree : {S : Scalars} {m u : ℕ} {M : ℕ → ℕ → ℕ} {p q : ℕ → ℕ} → Agree u p q → Combination S m M u p → Combination S m M u q
+combination-agree {S} {u = u} {M = M} a c = record {
+  small = record { at = λ j l. rw (← a .at j l) (c .small .at j l) };
+  row = λ i h. dot-agree S u {r = M i} (record { at = λ j l. refl }) (agree-sym a) ∙ c .row i h;
 }
+
+pub canonical-agree : {S : Scalars} {m u : ℕ} {M : ℕ → ℕ → ℕ} {p q : ℕ → ℕ} → Agree u p q → Canonical S m M u p → Canonical S m M u q
+canonical-agree a f = record { solves = combination-agree a (f .solves); free = λ k l g. sym (a .at k l) ∙ f .free k l g }

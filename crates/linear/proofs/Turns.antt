@@ -1,46 +1,48 @@
--- The turns of the loops: what one turn does to the matrix in the buffer.
-use mathlib.Core.List.{List}
-use mathlib.Core.Path.{_≡_, sym, ap₂, _∙_}
+-- The turns of the loops: what one turn does to the matrix in a memory.
+use mathlib.Core.Path.{_≡_, refl, sym, ap₂, _∙_}
 use Prim.Native.Nat.{ℕ, _+_, _*_, _<_}
 use native.Mathlib.Decide.{ℕ-discrete}
 use native.Mathlib.Nat.{le-refl}
 use native.Mathlib.Omega.{arith}
-use Rattle.linear.specs.Buffer.{cell, from, Overwritten}
-use Rattle.linear.specs.Elimination.{PivotAdded, Cleared}
+use Rattle.linear.specs.Buffer.{inRows, Written}
+use Rattle.linear.specs.Elimination.{RowAdded, Cleared}
 use Rattle.linear.specs.Row.{Agree, plus, times}
 use Rattle.linear.specs.Scalars.{Scalars}
 use Rattle.linear.proofs.Buffer.{overwritten-row, overwritten-other}
 use Rattle.linear.proofs.RowOperations.{Scaled}
 
--- row r takes up row p
-pub pivot-added-row : {S : Scalars} {l₀ l : List ℕ} (m w r p : ℕ) → (p ≡ r → ⊥)
-    → Overwritten l₀ l (r * w) w (plus S (from l₀ (r * w)) (times S 1 (from l₀ (p * w)))) → PivotAdded S m w r p (cell w l₀) (cell w l)
-pivot-added-row m w r p n u = record { row = λ _. overwritten-row w r u; itself = λ e. absurd (n e); others = λ i l g. overwritten-other w r i u g }
+-- row r takes up a multiple of row p
+pub added-row : {S : Scalars} {f₀ f : ℕ → ℕ} (m w x r p : ℕ) → (p ≡ r → ⊥)
+    → Written f₀ f (r * w) w (plus S (inRows w f₀ r) (times S x (inRows w f₀ p))) → RowAdded S m w x r p (inRows w f₀) (inRows w f)
+added-row m w x r p n u = record { row = λ _. overwritten-row w r u; itself = λ e. absurd (n e); others = λ i l g. overwritten-other w r i u g }
+
+-- row p itself is passed over
+pub added-itself : {S : Scalars} {x r p : ℕ} (m w : ℕ) (M : ℕ → ℕ → ℕ) → p ≡ r → RowAdded S m w x r p M M
+added-itself m w M e =
+    record { row = λ n. absurd (n e); itself = λ _. record { at = λ j l. refl }; others = λ i l g. record { at = λ j b. refl } }
 
 -- row r is scaled
-pub scaled-row : {S : Scalars} {l₀ l : List ℕ} (m w r f : ℕ) → Overwritten l₀ l (r * w) w (times S f (from l₀ (r * w)))
-    → Scaled S m w r f (cell w l₀) (cell w l)
-scaled-row m w r f u = record { row = overwritten-row w r u; others = λ i l g. overwritten-other w r i u g }
+pub scaled-row : {S : Scalars} {f₀ f : ℕ → ℕ} (m w r x : ℕ) → Written f₀ f (r * w) w (times S x (inRows w f₀ r))
+    → Scaled S m w r x (inRows w f₀) (inRows w f)
+scaled-row m w r x u = record { row = overwritten-row w r u; others = λ i l g. overwritten-other w r i u g }
 
--- row r itself is passed over
-pub cleared-skip : {S : Scalars} {m w c r i : ℕ} {M N : ℕ → ℕ → ℕ} → i ≡ r → Cleared S m w c r i M N → Cleared S m w c r (i + 1) M N
-cleared-skip e x = record { kept = x .kept; cleared = λ j l n. x .cleared j (omega arith) n; rest = λ j g l. x .rest j (omega arith) l }
-
--- one more row is cleared
-pub cleared-more : {S : Scalars} (l₀ : List ℕ) {l l' : List ℕ} (m w c r i : ℕ) → c < w → i < m → (i ≡ r → ⊥)
-    → Cleared S m w c r i (cell w l₀) (cell w l)
-    → Overwritten l l' (i * w) w (plus S (from l (i * w)) (times S (cell w l i c) (from l (r * w)))) → Cleared S m w c r (i + 1) (cell w l₀) (cell w l')
-cleared-more {S} l₀ {l} {l'} m w c r i cw im n x u = record {
-  kept = record { at = λ k b. overwritten-other w i r u (λ e. n (sym e)) .at k b ∙ x .kept .at k b };
+-- one more row is cleared, or it is row r itself
+pub cleared-more : {S : Scalars} {m w c r i : ℕ} {M N O : ℕ → ℕ → ℕ} → c < w → i < m → r < m → Cleared S m w c r i M N → RowAdded S m w (N i c) i r N O
+    → Cleared S m w c r (i + 1) M O
+cleared-more {S} {m} {w} {c} {r} {i} {M} {N} {O} cw im rm x u = record {
+  kept = elim (ℕ-discrete r i) [
+    | yes e ↦ record { at = λ k b. rw e (u .itself e .at k b) ∙ x .kept .at k b }
+    | no n ↦ record { at = λ k b. u .others r rm n .at k b ∙ x .kept .at k b }
+  ];
   cleared = λ j b ne. elim (ℕ-discrete j i) [
     | yes e ↦ record {
       at = λ k kw. rw e
-          (u .new k kw ∙ ap₂ (S .add) (same .at k kw) (ap₂ (S .mul) (same .at c cw) (x .kept .at k kw)));
+          (u .row (λ z. ne (e ∙ sym z)) .at k kw ∙ ap₂ (S .add) (same .at k kw) (ap₂ (S .mul) (same .at c cw) (x .kept .at k kw)));
     }
-    | no g ↦ record { at = λ k kw. overwritten-other w i j u g .at k kw ∙ x .cleared j (omega arith) ne .at k kw }
+    | no g ↦ record { at = λ k kw. u .others j (omega arith) g .at k kw ∙ x .cleared j (omega arith) ne .at k kw }
   ];
-  rest = λ j g b. record { at = λ k kw. overwritten-other w i j u (λ e. omega arith) .at k kw ∙ x .rest j (omega arith) b .at k kw };
+  rest = λ j g b. record { at = λ k kw. u .others j b (λ e. omega arith) .at k kw ∙ x .rest j (omega arith) b .at k kw };
 }
   where
-    same : Agree w (cell w l i) (cell w l₀ i)
+    same : Agree w (N i) (M i)
     same = x .rest i (le-refl i) im

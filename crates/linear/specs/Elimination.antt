@@ -46,9 +46,9 @@ pub record Pivot (m c r p : ℕ) (M : ℕ → ℕ → ℕ) : Type 0 where
   pub skipped : (i : ℕ) → r ≤ i → i < p → M i c ≡ 0
   pub found : p < m → M p c ≡ 0 → ⊥
 
--- row r has row p added to it, unless it is row p itself
-pub record PivotAdded (S : Scalars) (m w r p : ℕ) (M N : ℕ → ℕ → ℕ) : Type 0 where
-  pub row : (p ≡ r → ⊥) → Agree w (N r) (plus S (M r) (times S 1 (M p)))
+-- row r has f times row p added to it, unless it is row p itself; the others are as they were
+pub record RowAdded (S : Scalars) (m w f r p : ℕ) (M N : ℕ → ℕ → ℕ) : Type 0 where
+  pub row : (p ≡ r → ⊥) → Agree w (N r) (plus S (M r) (times S f (M p)))
   pub itself : p ≡ r → Agree w (N r) (M r)
   pub others : (i : ℕ) → i < m → (i ≡ r → ⊥) → Agree w (N i) (M i)
 

@@ -4,7 +4,7 @@ ghost use lib.ListN.{length, getD};
 ghost use Rattle.field.specs.Mul.{Narrow};
 ghost use Rattle.linear.specs.Scalars.{scalars};
 ghost use Rattle.linear.specs.Row.{Agree};
-ghost use Rattle.linear.specs.Elimination.{Eliminated, Pivot, PivotAdded, Cleared};
+ghost use Rattle.linear.specs.Elimination.{Eliminated, Pivot, RowAdded, Cleared};
 ghost use Rattle.linear.specs.Buffer.{cell, Grid};
 use crate::rows::add_multiple;
 use crate::rows::copy_row;
@@ -39,13 +39,13 @@ fn add_pivot_row(
 )
     requires { ⌜ Narrow width ⌝ }
     requires { ⌜ Grid (scalars width) (now matrix) rows columns × (rank < rows) × (pivot < rows) × (columns ≤ 256) ⌝ }
-    ensures { λ _. ⌜ PivotAdded (scalars width) rows columns rank pivot (cell columns (now (matrix .entry))) (cell columns (now (matrix .exit))) ⌝ }
+    ensures { λ _. ⌜ RowAdded (scalars width) rows columns 1 rank pivot (cell columns (now (matrix .entry))) (cell columns (now (matrix .exit))) ⌝ }
 {
     if pivot != rank {
         let a = rank * columns;
         let b = pivot * columns;
         let mut row = [0u8; MOST_COLUMNS];
-        copy_row(matrix, b, columns, &mut row);
+        copy_row(matrix, b, columns, &mut row, 0);
         add_multiple(width, matrix, columns, a, &row, 1);
     }
 }
@@ -86,7 +86,7 @@ fn clear(width: u32, matrix: &mut [u8], columns: usize, rows: usize, column: usi
 {
     let b = rank * columns;
     let mut row = [0u8; MOST_COLUMNS];
-    copy_row(matrix, b, columns, &mut row);
+    copy_row(matrix, b, columns, &mut row, 0);
     clear_rows(width, matrix, columns, rows, column, rank, &row);
 }
 

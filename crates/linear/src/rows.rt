@@ -4,17 +4,17 @@ ghost use Prim.Native.Nat.{_+_, _≤_};
 ghost use lib.ListN.{length, getD, replicate};
 ghost use Rattle.field.specs.Mul.{Narrow};
 ghost use Rattle.linear.specs.Scalars.{scalars};
-ghost use Rattle.linear.specs.Row.{Agree, plus, times};
+ghost use Rattle.linear.specs.Row.{plus, times};
 ghost use Rattle.linear.specs.Buffer.{from, Overwritten};
 
-// Copies the row at b.
-pub fn copy_row(matrix: &[u8], b: usize, columns: usize, row: &mut [u8])
-    requires { ⌜ (b + columns ≤ length (now matrix)) × (columns ≤ length (now row)) ⌝ }
-    ensures { λ _. ⌜ Agree columns (λ k. getD (now (row .exit)) k 0) (from (now (matrix .entry)) b) ⌝ }
+// Copies the row at b to the place a.
+pub fn copy_row(matrix: &[u8], b: usize, columns: usize, row: &mut [u8], a: usize)
+    requires { ⌜ (b + columns ≤ length (now matrix)) × (a + columns ≤ length (now row)) ⌝ }
+    ensures { λ _. ⌜ Overwritten (now (row .entry)) (now (row .exit)) a columns (from (now (matrix .entry)) b) ⌝ }
 {
     let mut k = 0;
     while k < columns {
-        row[k] = matrix[b + k];
+        row[a + k] = matrix[b + k];
         k += 1;
     }
 }

@@ -7,7 +7,7 @@ use Rattle.field.specs.Polynomial.{classes, exponents, combination, value}
 use Rattle.field.proofs.Inverses.{products}
 use Rattle.xor.specs.Sum.{join}
 use Rattle.decomposition.specs.Layout.{termsOf, layout, sized}
-use Rattle.decomposition.specs.Record.{headed}
+use Rattle.decomposition.specs.Record.{headed, outputsOf}
 use Rattle.decomposition.specs.Fit.{houseBasis}
 use Rattle.decomposition.proofs.Theorems.{zero-house}
 use Rattle.steps.specs.Program.{_>>=_, _>>_, note, random, loop, for, first, later, result, trace, draws}
@@ -31,7 +31,7 @@ use Rattle.paper.specs.Cases.{Case, computed, zeroFit, splitValue, check
 rows : map (λ (c : Case). c .given) computed ≡ map (λ (c : Case). c .said) computed
 unfolding computed houseBasis products classes flatten exponents combination value join
     _>>=_ _>>_ note random loop for first later result trace watched draws program.products start pair row product tabulate nibbles elements bytesFor
-    layout sized termsOf headed basisSize basisIn solutionIn
+    layout sized termsOf headed outputsOf basisSize basisIn solutionIn
     byShare square squares sbox.factors sbox.classesAfter sbox.powers constant sbox.term sbox.polynomial sbox.polynomials sbox.formProducts sbox.total sbox.sbox
     productsFor ownSteps stepsFor sboxSteps callProgram sboxCall callCounts
     turns iterate nibble replace onNibble present.table substitute place rotate onTopNibbles roundNumber updateKey
@@ -39,7 +39,7 @@ rows = refl
 
 -- a fit of the zero table: what is asked of a fit settles what is written
 zero-fit : zeroFit .given ≡ zeroFit .said
-zero-fit = zero-house (replicate 448 0) (replicate 33 255) refl refl .1
+zero-fit = zero-house (replicate 448 0) (replicate 34 255) refl refl .1
 
 split-value : splitValue .given ≡ splitValue .said
 unfolding products join tabulate column maskedByte splitShares

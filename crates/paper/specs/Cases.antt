@@ -47,9 +47,9 @@ maskedProduct = result (product 4 3 left right) drawn
 abbrev pub pairSteps : List ℕ
 pairSteps = watched (3 ∷ 4 ∷ 5 ∷ 6 ∷ 7 ∷ 8 ∷ 9 ∷ []) (trace (product 4 3 left right) drawn)
 
--- (j) a record of width n, with every coefficient 0
+-- (j) a record of width n with n output bits, with every coefficient 0
 abbrev pub zeroRecord : ℕ → List ℕ
-zeroRecord n = recordOf (layout n) (replicate (layout n .basis) 0) (replicate (layout n .unknowns) 0)
+zeroRecord n = recordOf (layout n n) (replicate (layout n n .basis) 0) (replicate (layout n n .unknowns) 0)
 
 -- (k) the zero table
 abbrev pub zeroTable : List ℕ
@@ -74,12 +74,12 @@ computed =
     ∷ gives (value 4 houseBasis 2 ∷ []) (9 ∷ [])
     ∷ gives (callCounts (sboxCall (zeroRecord 4) 3 (replicate 3 0) (replicate 3 0))) (2 ∷ 3 ∷ 213 ∷ [])
     ∷ gives (callCounts (sboxCall (zeroRecord 6) 3 (replicate 3 0) (replicate 15 0))) (5 ∷ 15 ∷ 930 ∷ [])
-    ∷ gives (sboxSteps 4 3 ∷ sboxSteps 6 3 ∷ []) (213 ∷ 930 ∷ [])
+    ∷ gives (sboxSteps 4 4 3 ∷ sboxSteps 6 6 3 ∷ []) (213 ∷ 930 ∷ [])
     ∷ []
 
 -- (k): the record that a fit of the zero table with the house basis writes, with zero p
 abbrev pub zeroFit : Case
-zeroFit = gives (fitRecord 4 (houseCall zeroTable (replicate 448 0) (replicate 33 255))) (recordOf (layout 4) houseBasis (replicate 18 0))
+zeroFit = gives (fitRecord 4 4 (houseCall zeroTable (replicate 448 0) (replicate 34 255))) (recordOf (layout 4 4) houseBasis (replicate 18 0))
 
 -- (l): a value split by masks
 abbrev pub splitValue : Case

@@ -26,46 +26,46 @@ use Rattle.steps.specs.Call.{callCounts, Takes}
 use Rattle.steps.specs.Call as call-spec
 use Rattle.steps.proofs.Call as call
 use Rattle.steps.proofs.Tape.{elements-nibbles}
-use Rattle.decomposition.specs.Layout.{head, layout, Known}
-use Rattle.decomposition.specs.Record.{coefficientsOf, widthOf, readOutcome, Accepted}
+use Rattle.decomposition.specs.Layout.{head, layout, Known, Pair}
+use Rattle.decomposition.specs.Record.{coefficientsOf, versionOf, widthOf, outputsOf, readOutcome, Accepted}
 use Rattle.decomposition.proofs.ReadOutcome.{read-values}
-use Rattle.decomposition.proofs.Sizes.{known-both}
+use Rattle.decomposition.proofs.Sizes.{each-pair, known-both}
 use Rattle.sbox.specs.Form.{basisIn, solutionIn}
 use Rattle.sbox.specs.Figures.{sboxProducts, sboxDraws, sboxSteps}
 use Rattle.sbox.specs.Sbox.{sbox}
 use Rattle.sbox.specs.Operations.{callProgram, sboxCall, sboxLengths, testedRandom, argumentTests, callTests, sboxOutput, watchOutput, SameShares, Callable, watchOutcome}
 use Rattle.sbox.proofs.Places.{sbox-same}
 use Rattle.sbox.proofs.Record.{accepted-record}
-use Rattle.sbox.proofs.Counts.{figures-4, figures-6}
+use Rattle.sbox.proofs.Counts.{figures-4-4, figures-6-6, figures-6-4}
 use Rattle.sbox.proofs.Runs.{takes}
 use Rattle.product.proofs.Counts.{few-pairs}
 
 -- ---- numbers stay small
 
-pub few-taken : (n s : ℕ) → Known n → s ≤ 9 → (sboxProducts n < 6) × (sboxDraws n s < 200) × (sboxSteps n s < 4000)
-few-taken n s w h =
-    known-both (λ n. (sboxProducts n < 6) × (sboxDraws n s < 200) × (sboxSteps n s < 4000))
-    (omega (arith, few-pairs h, figures-4 s)) (omega (arith, few-pairs h, figures-6 s)) n w
+pub few-taken : (n m s : ℕ) → Pair n m → s ≤ 9 → (sboxProducts n m < 6) × (sboxDraws n m s < 200) × (sboxSteps n m s < 4000)
+few-taken n m s w h =
+    each-pair (λ n m. (sboxProducts n m < 6) × (sboxDraws n m s < 200) × (sboxSteps n m s < 4000))
+    (omega (arith, few-pairs h, figures-4-4 s)) (omega (arith, few-pairs h, figures-6-6 s)) (omega (arith, few-pairs h, figures-6-4 s)) n m w
 
 -- ---- a call that passes the tests
 
 -- the record has as many coefficients as the code asks
-pub record-room : {n : ℕ} {r : List ℕ} → Accepted n r → layout n .coefficients ≤ length (coefficientsOf r)
-record-room {n} {r} a = omega (arith, length-drop head r, a .whole)
+pub record-room : {n : ℕ} {r : List ℕ} → Accepted n r → layout n (outputsOf r) .coefficients ≤ length (coefficientsOf r)
+record-room {n} {r} a = omega (arith, length-drop (head (versionOf r)) r, a .whole)
 
 -- the lengths that a call takes, and that these are all
-pub call-lengths : (n s shares random : ℕ) (fits : Bool) → sboxLengths n s shares random fits ≡ true
-    → (shares ≡ s) × (random ≡ bytesFor n (sboxDraws n s)) × (fits ≡ true)
+pub call-lengths : (n m s shares random : ℕ) (fits : Bool) → sboxLengths n m s shares random fits ≡ true
+    → (shares ≡ s) × (random ≡ bytesFor n (sboxDraws n m s)) × (fits ≡ true)
 unfolding sboxLengths
-call-lengths n s shares random fits e =
+call-lengths n m s shares random fits e =
     let a = and-eq-true-iff (eqb shares s) _ .0 e in
-    let b = and-eq-true-iff (eqb random (bytesFor n (sboxDraws n s))) fits .0 (a .1) in
+    let b = and-eq-true-iff (eqb random (bytesFor n (sboxDraws n m s))) fits .0 (a .1) in
     (eqb-true _ _ (a .0), eqb-true _ _ (b .0), b .1)
 
-pub call-lengths-right : (n s shares random : ℕ) (fits : Bool) → shares ≡ s → random ≡ bytesFor n (sboxDraws n s) → fits ≡ true
-    → sboxLengths n s shares random fits ≡ true
+pub call-lengths-right : (n m s shares random : ℕ) (fits : Bool) → shares ≡ s → random ≡ bytesFor n (sboxDraws n m s) → fits ≡ true
+    → sboxLengths n m s shares random fits ≡ true
 unfolding sboxLengths
-call-lengths-right n s shares random fits es er ef = rw (eq-eqb shares s es, eq-eqb random (bytesFor n (sboxDraws n s)) er, ef) refl
+call-lengths-right n m s shares random fits es er ef = rw (eq-eqb shares s es, eq-eqb random (bytesFor n (sboxDraws n m s)) er, ef) refl
 
 -- the random elements are small where those that are tested are
 tested-small : (n : ℕ) → Known n → (random : List ℕ) → Small 8 random → Small n (testedRandom n random) → Small n (elements n random)
@@ -82,24 +82,25 @@ pub passed-call : (r : List ℕ) (s : ℕ) (shares random : List ℕ) (fits : Bo
     → Callable (widthOf r) r s shares random × (fits ≡ true) × (done (widthOf r ∷ []) ≡ done v)
 unfolding callTests argumentTests
 passed-call r s shares random fits bytes e =
-    let m = widthOf r in
+    let n = widthOf r in
+    let m = outputsOf r in
     let a = then-passed (readOutcome r) _ e in
     let b = passed (oneTo 9 s) 7 0 _ (a .2) in
-    let c = passed (sboxLengths m s (length shares) (length random) fits) 2 0 _ (b .1) in
-    let lengths = call-lengths m s (length shares) (length random) fits (c .0) in
-    let l = shares ++ testedRandom m random in
-    let g = passed (leb (length l) (firstLarge (2 ^ m) l)) 3 (0 + firstLarge (2 ^ m) l) _ (c .1) in
-    let small = both-small (2 ^ m) shares (testedRandom m random) (leb-true (length l) (firstLarge (2 ^ m) l) (g .0)) in
+    let c = passed (sboxLengths n m s (length shares) (length random) fits) 2 0 _ (b .1) in
+    let lengths = call-lengths n m s (length shares) (length random) fits (c .0) in
+    let l = shares ++ testedRandom n random in
+    let g = passed (leb (length l) (firstLarge (2 ^ n) l)) 3 (0 + firstLarge (2 ^ n) l) _ (c .1) in
+    let small = both-small (2 ^ n) shares (testedRandom n random) (leb-true (length l) (firstLarge (2 ^ n) l) (g .0)) in
     let range = one-to-range 9 s (b .0) in
     let accepted = read-values r (a .1) .0 in
-    let callable : Callable m r s shares random = record {
+    let callable : Callable n r s shares random = record {
       accepted = accepted;
       some = range .0;
       nine = range .1;
       shares-length = lengths .0;
       random-length = lengths .1;
-      shares-small = all-small (2 ^ m) shares (pow-pos m) (small .0);
-      random-small = tested-small m (accepted .width) random bytes (all-small (2 ^ m) (testedRandom m random) (pow-pos m) (small .1));
+      shares-small = all-small (2 ^ n) shares (pow-pos n) (small .0);
+      random-small = tested-small n (accepted .pair .width) random bytes (all-small (2 ^ n) (testedRandom n random) (pow-pos n) (small .1));
     } in
     (callable, lengths .2, g .1)
 
@@ -118,7 +119,7 @@ sharing-of n s a e h = record { small = h; past = λ i l. List·getD-eq-default 
 
 -- what a call takes
 module _ {n s : ℕ} {r shares random : List ℕ} (a : Callable n r s shares random) where
-  pub call-takes : Takes (callProgram r s shares) (elements (widthOf r) random) (sboxProducts n) (sboxDraws n s) (sboxSteps n s)
+  pub call-takes : Takes (callProgram r s shares) (elements (widthOf r) random) (sboxProducts n (outputsOf r)) (sboxDraws n (outputsOf r) s) (sboxSteps n (outputsOf r) s)
   unfolding callProgram
   call-takes =
       let accepted = accepted-record n r (a .accepted) in
@@ -129,17 +130,17 @@ module _ {n s : ℕ} {r shares random : List ℕ} (a : Callable n r s shares ran
   pub call-ready : {watch vs : List ℕ} → length watch ≡ length vs → Ready (elements n random) watch (callProgram r s shares) zeroCounts vs
   unfolding sboxCall
   call-ready {watch} {vs} e =
-      let few = few-taken n s (a .accepted .width) (a .nine) in
-      let bytes : length random ≡ bytesFor (widthOf r) (sboxDraws n s) = rw (a .accepted .named) (a .random-length) in
+      let few = few-taken n (outputsOf r) s (a .accepted .pair) (a .nine) in
+      let bytes : length random ≡ bytesFor (widthOf r) (sboxDraws n (outputsOf r) s) = rw (a .accepted .named) (a .random-length) in
       let ready : Ready (elements (widthOf r) random) watch (callProgram r s shares) zeroCounts vs =
       call.call-ready (sboxCall r s shares random) call-takes (omega arith) (omega arith) (omega arith) bytes e in
       rw (a .accepted .named) at ready
 
 -- x has the same shares as those lent
 pub call-program : {n s : ℕ} {r shares random : List ℕ} (x : List ℕ) → Callable n r s shares random → SameShares x shares
-    → sbox n s (basisIn n (coefficientsOf r)) (solutionIn n (coefficientsOf r)) x ≡ callProgram r s shares
+    → sbox n s (basisIn n (outputsOf r) (coefficientsOf r)) (solutionIn n (outputsOf r) (coefficientsOf r)) x ≡ callProgram r s shares
 unfolding callProgram
-call-program {n} {s} {r} {shares} x a same = rw (a .accepted .named) (sbox-same n s x shares same (basisIn n (coefficientsOf r)) (solutionIn n (coefficientsOf r)))
+call-program {n} {s} {r} {shares} x a same = rw (a .accepted .named) (sbox-same n s x shares same (basisIn n (outputsOf r) (coefficientsOf r)) (solutionIn n (outputsOf r) (coefficientsOf r)))
 
 -- what a call's run hands back and writes
 module _ {n s : ℕ} {r shares random : List ℕ} (a : Callable n r s shares random) where
@@ -158,11 +159,12 @@ module _ {n s : ℕ} {r shares random : List ℕ} (a : Callable n r s shares ran
       ap (λ (y : List ℕ). tabulate s (share y)) (call.call-result (sboxCall r s shares random) v)
 
   -- what a watch leaves, where each number of the list is that of a step
-  some-steps : 0 < sboxSteps n s
+  some-steps : 0 < sboxSteps n (outputsOf r) s
   some-steps =
-      known-both (λ n. 0 < sboxSteps n s) (omega (arith, a .some, figures-4 s)) (omega (arith, a .some, figures-6 s)) n (a .accepted .width)
+      each-pair (λ n m. 0 < sboxSteps n m s) (omega (arith, a .some, figures-4-4 s)) (omega (arith, a .some, figures-6-6 s))
+      (omega (arith, a .some, figures-6-4 s)) n (outputsOf r) (a .accepted .pair)
 
-  pub call-watched : {list vs x vs′ : List ℕ} {c : Counts} → length list ≡ length vs → length list ≤ firstLarge (sboxSteps n s) list
+  pub call-watched : {list vs x vs′ : List ℕ} {c : Counts} → length list ≡ length vs → length list ≤ firstLarge (sboxSteps n (outputsOf r) s) list
       → Went (elements n random) list (callProgram r s shares) zeroCounts vs x c vs′ → vs′ ≡ watchOutput r s shares random list
   unfolding watchOutput sboxCall
   call-watched {list} {vs} {x} {vs′} {c} e below w =
@@ -171,11 +173,11 @@ module _ {n s : ℕ} {r shares random : List ℕ} (a : Callable n r s shares ran
 
   -- what a watch answers, once the tests but the last are passed
   pub watch-tests : (list : List ℕ) (values : ℕ) {v : List ℕ} → callTests r s shares random (listFits (length list) values) ≡ done v
-      → watchOutcome r s shares random list values ≡ testSteps (sboxSteps n s) list (done (callCounts (sboxCall r s shares random)))
+      → watchOutcome r s shares random list values ≡ testSteps (sboxSteps n (outputsOf r) s) list (done (callCounts (sboxCall r s shares random)))
   unfolding watchOutcome sboxCall call-spec.watchOutcome
   watch-tests list values e =
-      ap (λ (o : Outcome). andThen o (testSteps (sboxSteps (widthOf r) s) list (done (callCounts (sboxCall r s shares random))))) e
-      ∙ ap (λ (k : ℕ). testSteps (sboxSteps k s) list (done (callCounts (sboxCall r s shares random)))) (a .accepted .named)
+      ap (λ (o : Outcome). andThen o (testSteps (sboxSteps (widthOf r) (outputsOf r) s) list (done (callCounts (sboxCall r s shares random))))) e
+      ∙ ap (λ (k : ℕ). testSteps (sboxSteps k (outputsOf r) s) list (done (callCounts (sboxCall r s shares random)))) (a .accepted .named)
 
 -- ---- shares that are copied
 

@@ -13,8 +13,8 @@ use Rattle.steps.specs.Shape.{stepOf, Shape, touchesOf, bitsOf, stepsOf, drawsO
 use Rattle.steps.proofs.Shape.{counts-steps, counts-draws, counts-products, counts-for, uniform-append, uniform-for}
 use Rattle.product.specs.Product.{productShape}
 use Rattle.product.proofs.Counts.{pairs-twice, product-steps, product-draws, product-products, uniform-product}
-use Rattle.decomposition.specs.Layout.{termsOf, Known}
-use Rattle.decomposition.proofs.Sizes.{known-both}
+use Rattle.decomposition.specs.Layout.{termsOf, Pair}
+use Rattle.decomposition.proofs.Sizes.{each-pair}
 use Rattle.product.proofs.ByShare.{counts-times, uniform-times}
 use Rattle.sbox.specs.Form.{basisSize}
 use Rattle.sbox.specs.Shape.{classShape, powersShape, termShape, polynomialShape, totalShape, sboxShape}
@@ -90,29 +90,34 @@ counts-sbox c n s h q m hq hm =
 
 -- ---- the figures
 
-pub sbox-steps : (n s : ℕ) → stepsOf (sboxShape n s (basisSize n)) ≡ sboxSteps n s
+pub sbox-steps : (n m s : ℕ) → stepsOf (sboxShape n s (basisSize n m)) ≡ sboxSteps n m s
 unfolding touchesOf sboxSteps stepsFor
-sbox-steps n s =
-    counts-sbox counts-steps n s (basisSize n) 1 (s + 7 * (s * (s - 1) / 2)) (λ i. refl) (product-steps n s)
-    ∙ ap (λ (k : ℕ). ownSteps n (basisSize n) * k + productsFor n (basisSize n) * (s + 7 * (s * (s - 1) / 2))) (mul-one s)
+sbox-steps n m s =
+    counts-sbox counts-steps n s (basisSize n m) 1 (s + 7 * (s * (s - 1) / 2)) (λ i. refl) (product-steps n s)
+    ∙ ap (λ (k : ℕ). ownSteps n (basisSize n m) * k + productsFor n (basisSize n m) * (s + 7 * (s * (s - 1) / 2))) (mul-one s)
 
-pub sbox-draws : (n s : ℕ) → drawsOf (sboxShape n s (basisSize n)) ≡ sboxDraws n s
+pub sbox-draws : (n m s : ℕ) → drawsOf (sboxShape n s (basisSize n m)) ≡ sboxDraws n m s
 unfolding bitsOf sboxDraws drawsFor
-sbox-draws n s = counts-sbox counts-draws n s (basisSize n) 0 (s * (s - 1) / 2) (λ i. refl) (product-draws n s) ∙ omega arith
+sbox-draws n m s = counts-sbox counts-draws n s (basisSize n m) 0 (s * (s - 1) / 2) (λ i. refl) (product-draws n s) ∙ omega arith
 
-pub sbox-products : (n s : ℕ) → productsOf (sboxShape n s (basisSize n)) ≡ sboxProducts n
+pub sbox-products : (n m s : ℕ) → productsOf (sboxShape n s (basisSize n m)) ≡ sboxProducts n m
 unfolding productsOf sboxProducts
-sbox-products n s = counts-sbox counts-products n s (basisSize n) 0 1 (λ i. refl) (product-products n s) ∙ omega arith
+sbox-products n m s = counts-sbox counts-products n s (basisSize n m) 0 1 (λ i. refl) (product-products n s) ∙ omega arith
 
--- THE PAPER'S FIGURES at width 4,
-pub figures-4 : (s : ℕ) → (sboxProducts 4 ≡ 2) × (sboxDraws 4 s ≡ s * (s - 1)) × (sboxSteps 4 s ≡ 57 * s + 7 * (s * (s - 1)))
+-- THE PAPERS' FIGURES at (4, 4),
+pub figures-4-4 : (s : ℕ) → (sboxProducts 4 4 ≡ 2) × (sboxDraws 4 4 s ≡ s * (s - 1)) × (sboxSteps 4 4 s ≡ 57 * s + 7 * (s * (s - 1)))
 unfolding sboxProducts sboxDraws sboxSteps productsFor drawsFor stepsFor ownSteps basisSize termsOf factors
-figures-4 s = rw length-exponents-4 (refl, omega (arith, pairs-twice s), omega (arith, pairs-twice s))
+figures-4-4 s = rw length-exponents-4 (refl, omega (arith, pairs-twice s), omega (arith, pairs-twice s))
 
--- and at width 6.
-pub figures-6 : (s : ℕ) → (sboxProducts 6 ≡ 5) × (sboxDraws 6 s ≡ 5 * (s * (s - 1)) / 2) × (sboxSteps 6 s ≡ 275 * s + 35 * (s * (s - 1)) / 2)
+-- at (6, 6),
+pub figures-6-6 : (s : ℕ) → (sboxProducts 6 6 ≡ 5) × (sboxDraws 6 6 s ≡ 5 * (s * (s - 1)) / 2) × (sboxSteps 6 6 s ≡ 275 * s + 35 * (s * (s - 1)) / 2)
 unfolding sboxProducts sboxDraws sboxSteps productsFor drawsFor stepsFor ownSteps basisSize termsOf factors
-figures-6 s = rw length-exponents-6 (refl, omega (arith, pairs-twice s), omega (arith, pairs-twice s))
+figures-6-6 s = rw length-exponents-6 (refl, omega (arith, pairs-twice s), omega (arith, pairs-twice s))
+
+-- and at (6, 4).
+pub figures-6-4 : (s : ℕ) → (sboxProducts 6 4 ≡ 4) × (sboxDraws 6 4 s ≡ 2 * (s * (s - 1))) × (sboxSteps 6 4 s ≡ 201 * s + 14 * (s * (s - 1)))
+unfolding sboxProducts sboxDraws sboxSteps productsFor drawsFor stepsFor ownSteps basisSize termsOf factors
+figures-6-4 s = rw length-exponents-6 (refl, omega (arith, pairs-twice s), omega (arith, pairs-twice s))
 
 -- ---- all draws are of n bits
 
@@ -149,22 +154,22 @@ module _ (n s : ℕ) where
       (uniform-append n (times (suc k) polynomial) last (uniform-times n (suc k) polynomial uniform-polynomial)
       (uniform-append n (times k (productShape n s)) (totalShape s k) (uniform-times n k (productShape n s) (uniform-product n s)) (uniform-total k))))
 
-pub sbox-bits : (n s : ℕ) → bitsOf (sboxShape n s (basisSize n)) ≡ replicate (sboxDraws n s) n
-sbox-bits n s = uniform-sbox n s (basisSize n) ∙ ap (λ (k : ℕ). replicate k n) (sbox-draws n s)
+pub sbox-bits : (n m s : ℕ) → bitsOf (sboxShape n s (basisSize n m)) ≡ replicate (sboxDraws n m s) n
+sbox-bits n m s = uniform-sbox n s (basisSize n m) ∙ ap (λ (k : ℕ). replicate k n) (sbox-draws n m s)
 
 -- ---- in bytes
 
 -- THE RANDOM BYTES of a call: at width 4 two elements fill each,
-pub sbox-bytes-4 : (s : ℕ) → bytesFor 4 (sboxDraws 4 s) ≡ s * (s - 1) / 2
+pub sbox-bytes-4 : (s : ℕ) → bytesFor 4 (sboxDraws 4 4 s) ≡ s * (s - 1) / 2
 unfolding bytesFor
-sbox-bytes-4 s = omega (arith, pairs-twice s, figures-4 s .1)
+sbox-bytes-4 s = omega (arith, pairs-twice s, figures-4-4 s .1)
 
 -- at width 6 each holds one.
-pub sbox-bytes-6 : (s : ℕ) → bytesFor 6 (sboxDraws 6 s) ≡ 5 * (s * (s - 1)) / 2
+pub sbox-bytes-6 : (m s : ℕ) → bytesFor 6 (sboxDraws 6 m s) ≡ sboxDraws 6 m s
 unfolding bytesFor
-sbox-bytes-6 s = figures-6 s .1
+sbox-bytes-6 m s = refl
 
 -- no byte has room for more
-pub sbox-full : (n s : ℕ) → Known n → Full n (sboxDraws n s)
+pub sbox-full : (n m s : ℕ) → Pair n m → Full n (sboxDraws n m s)
 unfolding bytesFor
-sbox-full n s = known-both (λ n. Full n (sboxDraws n s)) (omega (arith, pairs-twice s, figures-4 s .1)) refl n
+sbox-full n m s = each-pair (λ n m. Full n (sboxDraws n m s)) (omega (arith, pairs-twice s, figures-4-4 s .1)) refl refl n m

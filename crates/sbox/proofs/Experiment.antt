@@ -35,25 +35,25 @@ use Rattle.sbox.proofs.Coupling.{coupled-sbox}
 
 -- ---- the shape
 
-pub experiment-bits : (n s : ℕ) → bitsOf (experimentShape n s) ≡ choiceBits (sboxInputs n s)
+pub experiment-bits : (n m s : ℕ) → bitsOf (experimentShape n m s) ≡ choiceBits (sboxInputs n m s)
 unfolding experimentShape choiceBits maskBits
-experiment-bits n s =
-    bits-append (replicate (s - 1) (drawOf n)) (sboxShape n s (basisSize n))
-    ∙ ap₂ (λ (l m : List ℕ). l ++ m) (draws-bits n (s - 1)) (sbox-bits n s)
+experiment-bits n m s =
+    bits-append (replicate (s - 1) (drawOf n)) (sboxShape n s (basisSize n m))
+    ∙ ap₂ (λ (k l : List ℕ). k ++ l) (draws-bits n (s - 1)) (sbox-bits n m s)
 
-pub experiment-touches : (n s : ℕ) → touchesOf (experimentShape n s) ≡ touchesOf (sboxShape n s (basisSize n))
+pub experiment-touches : (n m s : ℕ) → touchesOf (experimentShape n m s) ≡ touchesOf (sboxShape n s (basisSize n m))
 unfolding experimentShape
-experiment-touches n s =
-    touches-append (replicate (s - 1) (drawOf n)) (sboxShape n s (basisSize n))
-    ∙ ap (λ l. l ++ touchesOf (sboxShape n s (basisSize n))) (draws-touches n (s - 1))
+experiment-touches n m s =
+    touches-append (replicate (s - 1) (drawOf n)) (sboxShape n s (basisSize n m))
+    ∙ ap (λ l. l ++ touchesOf (sboxShape n s (basisSize n m))) (draws-touches n (s - 1))
 
-module _ {n : ℕ} {qs ps : List (List ℕ)} (accepted : AcceptedForm n qs ps) (s : ℕ) where
+module _ {n m : ℕ} {qs ps : List (List ℕ)} (accepted : AcceptedForm n m qs ps) (s : ℕ) where
   pub shaped-experiment : 0 < s → s ≤ 9 → (x : ℕ) → x < 2 ^ n
-      → Shaped (λ c. (length c ≡ 9) × Sharing n s (formOf n qs ps x) c) (experimentShape n s) (experiment n s qs ps x)
+      → Shaped (λ c. (length c ≡ 9) × Sharing n s (formOf n qs ps x) c) (experimentShape n m s) (experiment n s qs ps x)
   unfolding experiment experimentShape
   shaped-experiment some nine x h =
       shaped-bind (shaped-split n s x some h)
-      (λ a ha. rw (accepted .size) at (shaped-sbox (accepted .width) s x qs ps a some nine (accepted .coefficients) ha))
+      (λ a ha. rw (accepted .size) at (shaped-sbox (accepted .pair .width) s x qs ps a some nine (accepted .coefficients) ha))
 
   -- ---- the coupling
 
@@ -62,7 +62,7 @@ module _ {n : ℕ} {qs ps : List (List ℕ)} (accepted : AcceptedForm n qs ps) (
   unfolding experiment
   coupled-experiment u l x y hx hy =
       coupled-bind (coupled-split n s x y u hx hy l)
-      (λ a b h. coupled-sbox (field-of n (known-width n (accepted .width)) .ring) s u (accepted .coefficients) h)
+      (λ a b h. coupled-sbox (field-of n (known-width n (accepted .pair .width)) .ring) s u (accepted .coefficients) h)
 
 -- ---- counting choices
 
@@ -99,7 +99,7 @@ experiment-step-nine qs ps x tape = step-nine qs ps (x ⊕ join (first tape ∷ 
 
 -- the choices at which it shows 0, mask by mask: 256 for each mask at which it is 0
 pub step-nine-choices : (qs ps : List (List ℕ)) (x : ℕ)
-    → choices (choiceBits (sboxInputs 4 2)) (experiment 4 2 qs ps x) (9 ∷ []) (0 ∷ []) ≡ sum 16 (λ m. cond (equal (stepNine x m ∷ []) (0 ∷ [])) 256 0)
+    → choices (choiceBits (sboxInputs 4 4 2)) (experiment 4 2 qs ps x) (9 ∷ []) (0 ∷ []) ≡ sum 16 (λ m. cond (equal (stepNine x m ∷ []) (0 ∷ [])) 256 0)
 unfolding choices choiceBits maskBits sboxDraws drawsFor productsFor basisSize termsOf factors tally totalBits first
 step-nine-choices qs ps x =
     tally-same (4 ∷ 4 ∷ 4 ∷ []) _ (λ tape. equal (stepNine x (first tape) ∷ []) (0 ∷ []))

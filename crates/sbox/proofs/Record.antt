@@ -15,7 +15,7 @@ use Rattle.steps.specs.Fill.{tabulate}
 use Rattle.steps.proofs.Fill.{length-tabulate, getD-tabulate}
 use Rattle.decomposition.specs.Layout.{layout, sized}
 use Rattle.decomposition.specs.Form.{polynomialIn, valueOf, form}
-use Rattle.decomposition.specs.Record.{coefficientsOf, basisOf, solutionOf, Accepted}
+use Rattle.decomposition.specs.Record.{outputsOf, coefficientsOf, basisOf, solutionOf, Accepted}
 use Rattle.decomposition.specs.Check.{formIn}
 use Rattle.decomposition.specs.declared.layouts.Layout.{Layout}
 use Rattle.product.specs.ByShare.{nth}
@@ -33,16 +33,18 @@ polynomials-small n k L l h i j = elim (decLt i k) [
 ]
 
 -- an accepted record's coefficients are those of a form
-pub accepted-record : (n : ℕ) (r : List ℕ) → Accepted n r → AcceptedForm n (basisIn n (coefficientsOf r)) (solutionIn n (coefficientsOf r))
+pub accepted-record : (n : ℕ) (r : List ℕ) → Accepted n r
+    → let m = outputsOf r in AcceptedForm n m (basisIn n m (coefficientsOf r)) (solutionIn n m (coefficientsOf r))
 unfolding basisIn solutionIn
 accepted-record n r a =
-    let L = layout n in
-    let k = basisSize n in
+    let m = outputsOf r in
+    let L = layout n m in
+    let k = basisSize n m in
     let cs = coefficientsOf r in
     let counted : length (tabulate k (polynomialIn L (basisOf L cs))) ≡ k = length-tabulate k (polynomialIn L (basisOf L cs)) in
     let further : length (tabulate (suc k) (polynomialIn L (solutionOf L cs))) ≡ suc k = length-tabulate (suc k) (polynomialIn L (solutionOf L cs)) in
     record {
-      width = a .width;
+      pair = a .pair;
       size = counted;
       coefficients = record {
         one-more = further ∙ sym (ap suc counted);
@@ -52,11 +54,11 @@ accepted-record n r a =
     }
 
 -- and their form, polynomial by polynomial, is the form that Check compares
-pub record-form : (n : ℕ) (cs : List ℕ) (x : ℕ) → formOf n (basisIn n cs) (solutionIn n cs) x ≡ formIn (layout n) cs x
+pub record-form : (n m : ℕ) (cs : List ℕ) (x : ℕ) → formOf n (basisIn n m cs) (solutionIn n m cs) x ≡ formIn (layout n m) cs x
 unfolding formOf basisIn solutionIn basisSize form valueOf layout sized
-record-form n cs x =
-    let L = layout n in
-    let k = basisSize n in
+record-form n m cs x =
+    let L = layout n m in
+    let k = basisSize n m in
     let q = polynomialIn L (basisOf L cs) in
     let p = polynomialIn L (solutionOf L cs) in
     rw (length-tabulate k q)

@@ -19,13 +19,13 @@ use Rattle.sbox.specs.Figures.{sboxProducts, sboxDraws, sboxSteps}
 use Rattle.sbox.proofs.Shape.{shaped-sbox}
 use Rattle.sbox.proofs.Counts.{sbox-steps, sbox-draws, sbox-products, sbox-bits}
 
-module _ {n : ℕ} {qs ps : List (List ℕ)} (accepted : AcceptedForm n qs ps) (s x : ℕ) (a tape : List ℕ) (some : 0 < s) (nine : s ≤ 9)
+module _ {n m : ℕ} {qs ps : List (List ℕ)} (accepted : AcceptedForm n m qs ps) (s x : ℕ) (a tape : List ℕ) (some : 0 < s) (nine : s ≤ 9)
     (sharing : Sharing n s x a) (elements : Small n tape) where
-  shaped : Shaped (λ c. (length c ≡ 9) × Sharing n s (formOf n qs ps x) c) (sboxShape n s (basisSize n)) (sbox n s qs ps a)
-  shaped = rw (accepted .size) at (shaped-sbox (accepted .width) s x qs ps a some nine (accepted .coefficients) sharing)
+  shaped : Shaped (λ c. (length c ≡ 9) × Sharing n s (formOf n qs ps x) c) (sboxShape n s (basisSize n m)) (sbox n s qs ps a)
+  shaped = rw (accepted .size) at (shaped-sbox (accepted .pair .width) s x qs ps a some nine (accepted .coefficients) sharing)
 
-  fits : Fits (bitsOf (sboxShape n s (basisSize n))) tape
-  fits = rw (sbox-bits n s) (fits-small n (sboxDraws n s) tape elements)
+  fits : Fits (bitsOf (sboxShape n s (basisSize n m))) tape
+  fits = rw (sbox-bits n m s) (fits-small n (sboxDraws n m s) tape elements)
 
   -- the result is a sharing of the form at x, in nine places
   pub result-sharing : Sharing n s (formOf n qs ps x) (result (sbox n s qs ps a) tape)
@@ -35,9 +35,9 @@ module _ {n : ℕ} {qs ps : List (List ℕ)} (accepted : AcceptedForm n qs ps) (
   result-places = shaped-result shaped tape fits .0
 
   -- so many masked products, draws and steps are taken
-  pub takes : Takes (sbox n s qs ps a) tape (sboxProducts n) (sboxDraws n s) (sboxSteps n s)
-  takes = takes-shape shaped tape fits (sbox-products n s) (sbox-draws n s) (sbox-steps n s)
+  pub takes : Takes (sbox n s qs ps a) tape (sboxProducts n m) (sboxDraws n m s) (sboxSteps n m s)
+  takes = takes-shape shaped tape fits (sbox-products n m s) (sbox-draws n m s) (sbox-steps n m s)
 
   -- the draws are of n bits each
-  pub draws-are : draws (sbox n s qs ps a) tape ≡ replicate (sboxDraws n s) n
-  draws-are = shaped-draws shaped tape fits ∙ sbox-bits n s
+  pub draws-are : draws (sbox n s qs ps a) tape ≡ replicate (sboxDraws n m s) n
+  draws-are = shaped-draws shaped tape fits ∙ sbox-bits n m s

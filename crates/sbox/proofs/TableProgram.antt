@@ -11,8 +11,8 @@ use Rattle.field.proofs.Polynomial.{length-exponents-4, length-exponents-6}
 use Rattle.steps.specs.Fill.{tabulate}
 use Rattle.steps.specs.Sharing.{share}
 use Rattle.steps.proofs.Fill.{length-tabulate, getD-tabulate}
-use Rattle.decomposition.specs.Layout.{termsOf, sized, layout, Known}
-use Rattle.decomposition.proofs.Sizes.{known-both}
+use Rattle.decomposition.specs.Layout.{termsOf, sized, layout, Pair}
+use Rattle.decomposition.proofs.Sizes.{each-pair}
 use Rattle.sbox.specs.Sbox.{factors, sbox}
 use Rattle.product.specs.ByShare.{nth}
 use Rattle.sbox.specs.Form.{basisSize, basisIn, solutionIn}
@@ -56,13 +56,16 @@ record Sizes (n k h : ℕ) : Type 0 where
   few : k + (h + (h + 1)) + h ≤ 28
   made : n * (1 + length (factors n)) ≡ k
 
-sizes : (k h n : ℕ) → Known n → length (exponents n) ≡ k + 1 → basisSize n ≡ h → Sizes n k h
+sizes : (k h n m : ℕ) → Pair n m → length (exponents n) ≡ k + 1 → basisSize n m ≡ h → Sizes n k h
 unfolding basisSize termsOf factors
 sizes k h =
-    known-both (λ n. length (exponents n) ≡ k + 1 → basisSize n ≡ h → Sizes n k h)
+    each-pair (λ n m. length (exponents n) ≡ k + 1 → basisSize n m ≡ h → Sizes n k h)
     (λ ek eh.
     let eight : k ≡ 8 = omega (arith, length-exponents-4) in
     rw (eight, ← eh) (record { wide = omega arith; some = omega arith; few = omega arith; made = refl }))
+    (λ ek eh.
+    let eighteen : k ≡ 18 = omega (arith, length-exponents-6) in
+    rw (eighteen, ← eh) (record { wide = omega arith; some = omega arith; few = omega arith; made = refl }))
     (λ ek eh.
     let eighteen : k ≡ 18 = omega (arith, length-exponents-6) in
     rw (eighteen, ← eh) (record { wide = omega arith; some = omega arith; few = omega arith; made = refl }))
@@ -70,15 +73,15 @@ sizes k h =
 -- ---- the theorem
 
 -- x and y have the same s shares
-pub rows-are-sbox : (n k h s : ℕ) → Known n → length (exponents n) ≡ k + 1 → basisSize n ≡ h → s ≤ 9
+pub rows-are-sbox : (n m k h s : ℕ) → Pair n m → length (exponents n) ≡ k + 1 → basisSize n m ≡ h → s ≤ 9
     → (cs x y : List ℕ) → ((i : ℕ) → i < s → share x i ≡ share y i)
-    → sboxRows n k h s cs x ≡ sbox n s (basisIn n cs) (solutionIn n cs) y
+    → sboxRows n k h s cs x ≡ sbox n s (basisIn n m cs) (solutionIn n m cs) y
 unfolding basisIn solutionIn basisSize layout sized
-rows-are-sbox n k h s w ek eh nine cs x y same =
-    let z = sizes k h n w ek eh in
-    let m = k + 1 in
-    let q : ℕ → List ℕ = λ i. take m (drop (i * m) (take (h * m) cs)) in
-    let p : ℕ → List ℕ = λ i. take m (drop (i * m) (drop (h * m) cs)) in
+rows-are-sbox n m k h s w ek eh nine cs x y same =
+    let z = sizes k h n m w ek eh in
+    let e = k + 1 in
+    let q : ℕ → List ℕ = λ i. take e (drop (i * e) (take (h * e) cs)) in
+    let p : ℕ → List ℕ = λ i. take e (drop (i * e) (drop (h * e) cs)) in
     let lq : length (tabulate h q) ≡ h = length-tabulate h q in
     let lp : length (tabulate (suc h) p) ≡ suc h = length-tabulate (suc h) p in
     rw (ek, eh)

@@ -10,7 +10,7 @@ use Rattle.steps.specs.Tape.{elements}
 use Rattle.steps.specs.Split.{settled}
 use Rattle.sbox.specs.Form.{basisIn, solutionIn}
 use Rattle.sbox.specs.Experiment.{experiment}
-use Rattle.decomposition.specs.Record.{coefficientsOf, widthOf}
+use Rattle.decomposition.specs.Record.{outputsOf, coefficientsOf, widthOf}
 use Rattle.sbox.specs.Operations.{callProgram, sboxCall, watchOutput}
 use Rattle.steps.specs.Call as call
 use Rattle.sbox.proofs.Secrecy.{experiment-steps}
@@ -18,8 +18,8 @@ use Rattle.sbox.proofs.Secrecy.{experiment-steps}
 pub watch-shows : (r : List ℕ) (s x : ℕ) (masks random list : List ℕ) → length masks ≡ s - 1
     → let n = widthOf r in
     watchOutput r s (settled x masks) random list
-    ≡ watched list (trace (experiment n s (basisIn n (coefficientsOf r)) (solutionIn n (coefficientsOf r)) x) (masks ++ elements n random))
+    ≡ watched list (trace (experiment n s (basisIn n (outputsOf r) (coefficientsOf r)) (solutionIn n (outputsOf r) (coefficientsOf r)) x) (masks ++ elements n random))
 unfolding watchOutput sboxCall call.watchOutput callProgram
 watch-shows r s x masks random list e =
     let n = widthOf r in
-    ap (watched list) (sym (experiment-steps n s (basisIn n (coefficientsOf r)) (solutionIn n (coefficientsOf r)) x masks (elements n random) e))
+    ap (watched list) (sym (experiment-steps n s (basisIn n (outputsOf r) (coefficientsOf r)) (solutionIn n (outputsOf r) (coefficientsOf r)) x masks (elements n random) e))

@@ -5,6 +5,7 @@ use Prim.Native.Nat.{ℕ}
 use lib.ListN.{length}
 use Rattle.refusal.specs.Outcome.{done}
 use Rattle.steps.specs.Operations.{splitShares, splitOutcome, joinShares, joinOutcome}
+use Rattle.decomposition.specs.Record.{outputsOf}
 use Rattle.sbox.specs.Figures.{figures}
 use Rattle.sbox.specs.Operations.{sboxOutcome, sboxOutput}
 
@@ -21,6 +22,6 @@ substituted r s x masks random = sboxOutput r s (splitElement s x masks) random
 pub record Chained (r : List ℕ) (n s x : ℕ) (masks random : List ℕ) (y : ℕ) : Type 0 where
   pub split-done : splitOutcome (length (x ∷ [])) s (length masks) (length (splitElement s x masks)) ≡ done []
   pub sbox-done : sboxOutcome r s (splitElement s x masks) random (length (substituted r s x masks random))
-      ≡ done (figures n s)
+      ≡ done (figures n (outputsOf r) s)
   pub join-done : joinOutcome (length (substituted r s x masks random)) s (length (y ∷ [])) ≡ done []
   pub join-writes : joinShares 1 s (substituted r s x masks random) ≡ y ∷ []

@@ -15,10 +15,10 @@ use Rattle.sbox.specs.Figures.{sboxDraws}
 unfoldable pub experiment : ℕ → ℕ → List (List ℕ) → List (List ℕ) → ℕ → Run (List ℕ)
 experiment n s qs ps x = split n s x >>= sbox n s qs ps
 
--- its shape: a draw for each mask, and then the S-box
-unfoldable pub experimentShape : ℕ → ℕ → Shape
-experimentShape n s = replicate (s - 1) (drawOf n) ++ sboxShape n s (basisSize n)
+-- its shape with a record of m output bits: a draw for each mask, and then the S-box
+unfoldable pub experimentShape : ℕ → ℕ → ℕ → Shape
+experimentShape n m s = replicate (s - 1) (drawOf n) ++ sboxShape n s (basisSize n m)
 
--- the inputs of a call: a secret of n bits in s shares, and the random elements that the steps draw
-abbrev pub sboxInputs : ℕ → ℕ → Inputs
-sboxInputs n s = record { secrets = element n ∷ []; shares = s; width = n; draws = sboxDraws n s }
+-- the inputs of a call with such a record: a secret of n bits in s shares, and the random elements that the steps draw
+abbrev pub sboxInputs : ℕ → ℕ → ℕ → Inputs
+sboxInputs n m s = record { secrets = element n ∷ []; shares = s; width = n; draws = sboxDraws n m s }

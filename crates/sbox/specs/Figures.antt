@@ -26,20 +26,20 @@ drawsFor n h s = productsFor n h * (s * (s - 1) / 2)
 unfoldable pub stepsFor : ℕ → ℕ → ℕ → ℕ
 stepsFor n h s = ownSteps n h * s + productsFor n h * (s + 7 * (s * (s - 1) / 2))
 
--- ---- with the basis of a record of width n (proofs/Counts.antt, `figures-4` and `figures-6`)
+-- ---- with the basis of a record of width n with m output bits: at (4, 4), (6, 6) and (6, 4) (proofs/Counts.antt, `figures-4-4` ..)
 
--- masked products: 2 at width 4, 5 at width 6
-unfoldable pub sboxProducts : ℕ → ℕ
-sboxProducts n = productsFor n (basisSize n)
+-- masked products: 2, 5 and 4
+unfoldable pub sboxProducts : ℕ → ℕ → ℕ
+sboxProducts n m = productsFor n (basisSize n m)
 
--- random elements: s(s - 1) and 5 s(s - 1)/2
-unfoldable pub sboxDraws : ℕ → ℕ → ℕ
-sboxDraws n s = drawsFor n (basisSize n) s
+-- random elements: s(s - 1), 5 s(s - 1)/2 and 2 s(s - 1)
+unfoldable pub sboxDraws : ℕ → ℕ → ℕ → ℕ
+sboxDraws n m s = drawsFor n (basisSize n m) s
 
--- steps: 57 s + 7 s(s - 1) and 275 s + 35 s(s - 1)/2
-unfoldable pub sboxSteps : ℕ → ℕ → ℕ
-sboxSteps n s = stepsFor n (basisSize n) s
+-- steps: 57 s + 7 s(s - 1), 275 s + 35 s(s - 1)/2 and 201 s + 14 s(s - 1)
+unfoldable pub sboxSteps : ℕ → ℕ → ℕ → ℕ
+sboxSteps n m s = stepsFor n (basisSize n m) s
 
 -- what a call or a watch hands back: masked products, random bytes, steps
-unfoldable pub figures : ℕ → ℕ → List ℕ
-figures n s = sboxProducts n ∷ bytesFor n (sboxDraws n s) ∷ sboxSteps n s ∷ []
+unfoldable pub figures : ℕ → ℕ → ℕ → List ℕ
+figures n m s = sboxProducts n m ∷ bytesFor n (sboxDraws n m s) ∷ sboxSteps n m s ∷ []

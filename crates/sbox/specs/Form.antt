@@ -6,7 +6,7 @@ use lib.ListN.{length}
 use Rattle.xor.specs.Sum.{Small}
 use Rattle.field.specs.Polynomial.{value}
 use Rattle.steps.specs.Fill.{tabulate}
-use Rattle.decomposition.specs.Layout.{termsOf, layout, Known}
+use Rattle.decomposition.specs.Layout.{termsOf, layout, Pair}
 use Rattle.decomposition.specs.Form.{formOfValues, polynomialIn}
 use Rattle.decomposition.specs.Record.{basisOf, solutionOf}
 use Rattle.product.specs.ByShare.{nth}
@@ -29,20 +29,20 @@ pub record Coefficients (n : ℕ) (qs ps : List (List ℕ)) : Type 0 where
 
 -- ---- the polynomials of a record
 
--- t - 1, the number of polynomials in the basis, by width
-unfoldable pub basisSize : ℕ → ℕ
-basisSize n = termsOf n - 1
+-- t - 1, the number of polynomials in the basis, by width and output bits
+unfoldable pub basisSize : ℕ → ℕ → ℕ
+basisSize n m = termsOf n m - 1
 
--- the basis among a record's coefficients, at width n
-unfoldable pub basisIn : ℕ → List ℕ → List (List ℕ)
-basisIn n coefficients = tabulate (basisSize n) (polynomialIn (layout n) (basisOf (layout n) coefficients))
+-- the basis among a record's coefficients, at width n with m output bits
+unfoldable pub basisIn : ℕ → ℕ → List ℕ → List (List ℕ)
+basisIn n m coefficients = tabulate (basisSize n m) (polynomialIn (layout n m) (basisOf (layout n m) coefficients))
 
 -- and p1 to pt
-unfoldable pub solutionIn : ℕ → List ℕ → List (List ℕ)
-solutionIn n coefficients = tabulate (suc (basisSize n)) (polynomialIn (layout n) (solutionOf (layout n) coefficients))
+unfoldable pub solutionIn : ℕ → ℕ → List ℕ → List (List ℕ)
+solutionIn n m coefficients = tabulate (suc (basisSize n m)) (polynomialIn (layout n m) (solutionOf (layout n m) coefficients))
 
--- qs and ps are what an accepted record gives: the coefficients of a form of t terms, at a width that has decompositions
-pub record AcceptedForm (n : ℕ) (qs ps : List (List ℕ)) : Type 0 where
-  pub width : Known n
-  pub size : length qs ≡ basisSize n
+-- qs and ps are what an accepted record gives: the coefficients of a form of t terms, for a pair of width and output bits
+pub record AcceptedForm (n m : ℕ) (qs ps : List (List ℕ)) : Type 0 where
+  pub pair : Pair n m
+  pub size : length qs ≡ basisSize n m
   pub coefficients : Coefficients n qs ps

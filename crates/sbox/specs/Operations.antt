@@ -15,7 +15,7 @@ use Rattle.steps.specs.Call as call
 use Rattle.steps.specs.Sharing.{share}
 use Rattle.steps.specs.Fill.{tabulate}
 use Rattle.steps.specs.Tape.{elements, bytesFor}
-use Rattle.decomposition.specs.Record.{coefficientsOf, widthOf, readOutcome, Accepted}
+use Rattle.decomposition.specs.Record.{coefficientsOf, widthOf, outputsOf, readOutcome, Accepted}
 use Rattle.sbox.specs.Sbox.{sbox}
 use Rattle.sbox.specs.Figures.{sboxDraws, sboxSteps}
 use Rattle.sbox.specs.Form.{basisIn, solutionIn}
@@ -30,30 +30,30 @@ use Rattle.sbox.specs.declared.watching.WatchAnswer.the-variants.{Done a
 
 -- the masked S-box of the shares by the record's polynomials
 unfoldable pub callProgram : List ℕ → ℕ → List ℕ → Run (List ℕ)
-callProgram r s shares = sbox (widthOf r) s (basisIn (widthOf r) (coefficientsOf r)) (solutionIn (widthOf r) (coefficientsOf r)) shares
+callProgram r s shares = sbox (widthOf r) s (basisIn (widthOf r) (outputsOf r) (coefficientsOf r)) (solutionIn (widthOf r) (outputsOf r) (coefficientsOf r)) shares
 
 -- ---- the tests of both operations
 
--- the lengths at width n: of the shares, of the random bytes, and, as `fits` says, of what is lent for output
-unfoldable pub sboxLengths : ℕ → ℕ → ℕ → ℕ → Bool → Bool
-sboxLengths n s shares random fits = eqb shares s && (eqb random (bytesFor n (sboxDraws n s)) && fits)
+-- the lengths at width n with m output bits: of the shares, of the random bytes, and, as `fits` says, of what is lent for output
+unfoldable pub sboxLengths : ℕ → ℕ → ℕ → ℕ → ℕ → Bool → Bool
+sboxLengths n m s shares random fits = eqb shares s && (eqb random (bytesFor n (sboxDraws n m s)) && fits)
 
 -- the random elements that may be too large: none at width 4, where every string of bytes holds elements of 4 bits
 unfoldable pub testedRandom : ℕ → List ℕ → List ℕ
 testedRandom n random = cond (eqb n 4) [] (elements n random)
 
--- Those of the arguments at width n, `fits` saying whether what is lent for output has its length: 7 a share count not 1 to 9; 2 a length;
+-- Those of the arguments at width n with m output bits, `fits` saying whether what is lent for output has its length: 7 a share count not 1 to 9; 2 a length;
 -- 3 an element too large, its place counted through shares and random elements. They hand on the width.
-unfoldable pub argumentTests : ℕ → ℕ → List ℕ → List ℕ → Bool → Outcome
-argumentTests n s shares random fits =
+unfoldable pub argumentTests : ℕ → ℕ → ℕ → List ℕ → List ℕ → Bool → Outcome
+argumentTests n m s shares random fits =
     test (oneTo 9 s) 7 0
-    (test (sboxLengths n s (length shares) (length random) fits) 2 0
+    (test (sboxLengths n m s (length shares) (length random) fits) 2 0
     (testBelow (2 ^ n) 0 (shares ++ testedRandom n random)
     (done (n ∷ []))))
 
 -- Read's tests come first
 unfoldable pub callTests : List ℕ → ℕ → List ℕ → List ℕ → Bool → Outcome
-callTests r s shares random fits = andThen (readOutcome r) (argumentTests (widthOf r) s shares random fits)
+callTests r s shares random fits = andThen (readOutcome r) (argumentTests (widthOf r) (outputsOf r) s shares random fits)
 
 -- ---- the call
 
@@ -64,7 +64,7 @@ sboxCall r s shares random = record {
   program = callProgram r s shares;
   width = widthOf r;
   random = random;
-  total = sboxSteps (widthOf r) s;
+  total = sboxSteps (widthOf r) (outputsOf r) s;
 }
 
 -- ---- S-box (record, s, shares, random, out)
@@ -114,6 +114,6 @@ pub record Callable (n : ℕ) (r : List ℕ) (s : ℕ) (shares random : List ℕ
   pub some : 0 < s
   pub nine : s ≤ 9
   pub shares-length : length shares ≡ s
-  pub random-length : length random ≡ bytesFor n (sboxDraws n s)
+  pub random-length : length random ≡ bytesFor n (sboxDraws n (outputsOf r) s)
   pub shares-small : Small n shares
   pub random-small : Small n (elements n random)

@@ -5,12 +5,13 @@ ghost use Prim.Native.Nat.{_^_, _<_, _≤_};
 ghost use lib.ListN.{length};
 ghost use Rattle.refusal.specs.Outcome.{done, refused};
 ghost use Rattle.refusal.specs.Large.{testBelow};
-ghost use Rattle.decomposition.specs.Layout.{Known};
+ghost use Rattle.decomposition.specs.Layout.{Known, Pair};
 ghost use Rattle.steps.specs.Tape.{elements};
 ghost use Rattle.sbox.specs.Operations.{testedReport, sboxLengths, testedRandom, argumentTests, callTests};
 use crate::figures::draw_count;
 use crate::figures::order;
 use decomposition::ReadAnswer;
+use decomposition::outputs_of;
 use decomposition::read;
 use refusal::first_large;
 use refusal::one_to;
@@ -40,35 +41,51 @@ pub fn call_tests(rec: &[u8], s: u32, shares: &[u8], random: &[u8], fits: bool) 
     let answer = read(rec);
     match answer {
         ReadAnswer::Refused { number, place } => Tested::refuse(number, place),
-        ReadAnswer::Done { width } => argument_tests(width, s, shares, random, fits),
+        ReadAnswer::Done { width } => {
+            argument_tests(width, outputs_of(rec), s, shares, random, fits)
+        }
     }
 }
 
-// The tests of the arguments at the width.
-fn argument_tests(width: u32, s: u32, shares: &[u8], random: &[u8], fits: bool) -> Tested
-    requires { ⌜ Known width ⌝ }
-    ensures { λ r. ⌜ testedReport r ≡ argumentTests width s (now (shares .entry)) (now (random .entry)) fits ⌝ }
+// The tests of the arguments at the width, with so many output bits.
+fn argument_tests(
+    width: u32,
+    outputs: u32,
+    s: u32,
+    shares: &[u8],
+    random: &[u8],
+    fits: bool,
+) -> Tested
+    requires { ⌜ Pair width outputs ⌝ }
+    ensures { λ r. ⌜ testedReport r ≡ argumentTests width outputs s (now (shares .entry)) (now (random .entry)) fits ⌝ }
 {
     let count = s as usize;
     if !one_to(9, count) {
         return Tested::refuse(7, 0);
     }
-    if !lengths_fit(width, count, shares.len(), random.len(), fits) {
+    if !lengths_fit(width, outputs, count, shares.len(), random.len(), fits) {
         return Tested::refuse(2, 0);
     }
     element_tests(width, shares, random)
 }
 
 // Whether shares and random bytes, so many, are what so many shares take, and `fits` holds.
-fn lengths_fit(width: u32, count: usize, shares: usize, random: usize, fits: bool) -> bool
-    requires { ⌜ Known width ⌝ }
+fn lengths_fit(
+    width: u32,
+    outputs: u32,
+    count: usize,
+    shares: usize,
+    random: usize,
+    fits: bool,
+) -> bool
+    requires { ⌜ Pair width outputs ⌝ }
     requires { ⌜ (0 < count) × (count ≤ 9) ⌝ }
-    ensures { λ r. ⌜ r ≡ sboxLengths width count shares random fits ⌝ }
+    ensures { λ r. ⌜ r ≡ sboxLengths width outputs count shares random fits ⌝ }
 {
     if shares != count {
         return false;
     }
-    let drawn = draw_count(width, count);
+    let drawn = draw_count(width, outputs, count);
     if random != bytes_for(width, drawn) {
         return false;
     }

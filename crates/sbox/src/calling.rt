@@ -8,7 +8,8 @@ ghost use Rattle.steps.specs.Tape.{elements};
 ghost use Rattle.steps.specs.Machine.{zeroCounts, Went};
 ghost use Rattle.sbox.specs.Operations.{callProgram, SameShares, Callable};
 use crate::evaluation::run;
-use decomposition::layouts::HEAD;
+use decomposition::head_of;
+use decomposition::outputs_of;
 use product::Masked;
 use steps::Counts;
 
@@ -44,7 +45,19 @@ pub fn call(
 {
     let x = nine(shares);
     let n = Counts::zero();
-    run(width, s, &rec[HEAD..], &x, random, watch, values, n)
+    let outputs = outputs_of(rec);
+    let coefficients = &rec[head_of(rec)..];
+    run(
+        width,
+        outputs,
+        s,
+        coefficients,
+        &x,
+        random,
+        watch,
+        values,
+        n,
+    )
 }
 
 // The first shares of c are copied out.

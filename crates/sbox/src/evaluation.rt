@@ -1,12 +1,13 @@
 // The masked S-box of a sharing.
 ghost use Prim.Native.Nat.{_+_, _*_, _<_, _≤_};
 ghost use lib.ListN.{length};
-ghost use Rattle.decomposition.specs.Layout.{layout, Known};
+ghost use Rattle.decomposition.specs.Layout.{layout, Known, Pair};
 ghost use Rattle.steps.specs.Tape.{elements};
 ghost use Rattle.steps.specs.Machine.{Ready, Went};
 ghost use Rattle.sbox.specs.Sbox.{sbox};
 ghost use Rattle.sbox.specs.Form.{basisIn, solutionIn};
 ghost use Rattle.sbox.specs.TableSteps as spec;
+use crate::figures::basis_size;
 use crate::polynomial_rows::polynomials;
 use crate::power_rows::powers;
 use crate::product_rows::products;
@@ -108,10 +109,11 @@ fn evaluate(
     }
 }
 
-// The masked S-box of the sharing x, of s shares, by the coefficients of a record of the width. The width is tested here, so that the numbers of powers and products
-// are known in each case.
+// The masked S-box of the sharing x, of s shares, by the coefficients of a record of the width with so many output bits. The width is tested here, so that
+// the number of powers is known in each case.
 pub fn run(
     width: u32,
+    outputs: u32,
     s: usize,
     coefficients: &[u8],
     x: &[u8; 9],
@@ -120,17 +122,18 @@ pub fn run(
     values: &mut [u8],
     n: Counts,
 ) -> Masked
-    requires { ⌜ Known width ⌝ }
-    requires { ⌜ (s ≤ 9) × (layout width .coefficients ≤ length (now coefficients)) ⌝ }
+    requires { ⌜ Pair width outputs ⌝ }
+    requires { ⌜ (s ≤ 9) × (layout width outputs .coefficients ≤ length (now coefficients)) ⌝ }
     requires { ⌜ Ready (elements width (now random)) (now watch)
-        (sbox width s (basisIn width (now coefficients)) (solutionIn width (now coefficients)) (now x)) n (now values) ⌝ }
+        (sbox width s (basisIn width outputs (now coefficients)) (solutionIn width outputs (now coefficients)) (now x)) n (now values) ⌝ }
     ensures { λ w. ⌜ Went (elements width (now (random .entry))) (now (watch .entry))
-        (sbox width s (basisIn width (now (coefficients .entry))) (solutionIn width (now (coefficients .entry))) (now (x .entry)))
+        (sbox width s (basisIn width outputs (now (coefficients .entry))) (solutionIn width outputs (now (coefficients .entry))) (now (x .entry)))
         n (now (values .entry)) (w .shares) (w .counts) (now (values .exit)) ⌝ }
 {
     if width == 4 {
         evaluate(4, 8, 1, s, coefficients, x, random, watch, values, n)
     } else {
-        evaluate(6, 18, 3, s, coefficients, x, random, watch, values, n)
+        let h = basis_size(outputs);
+        evaluate(6, 18, h, s, coefficients, x, random, watch, values, n)
     }
 }

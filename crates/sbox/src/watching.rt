@@ -3,6 +3,7 @@ ghost use mathlib.Core.Path.{_≡_};
 ghost use lib.ListN.{length};
 ghost use Rattle.refusal.specs.Outcome.{done, refused, Answered};
 ghost use Rattle.refusal.specs.Watch.{testSteps};
+ghost use Rattle.decomposition.specs.Record.{outputsOf};
 ghost use Rattle.sbox.specs.Figures.{sboxSteps};
 ghost use Rattle.steps.specs.Call.{callCounts};
 ghost use Rattle.sbox.specs.Operations.{Callable, sboxCall, watchReport, watchOutcome, watchOutput};
@@ -10,6 +11,7 @@ use crate::arguments::Tested;
 use crate::arguments::call_tests;
 use crate::calling::call;
 use crate::figures::step_count;
+use decomposition::outputs_of;
 use refusal::first_past;
 use refusal::list_fits;
 use steps::bytes_for;
@@ -73,11 +75,11 @@ fn watch(
     requires { ⌜ Callable width (now rec) s (now shares) (now random) ⌝ }
     requires { ⌜ length (now list) ≡ length (now values) ⌝ }
     ensures { λ r. ⌜ Answered
-        (testSteps (sboxSteps width s) (now (list .entry)) (done (callCounts (sboxCall (now (rec .entry)) s (now (shares .entry)) (now (random .entry))))))
+        (testSteps (sboxSteps width (outputsOf (now (rec .entry))) s) (now (list .entry)) (done (callCounts (sboxCall (now (rec .entry)) s (now (shares .entry)) (now (random .entry))))))
         (watchOutput (now (rec .entry)) s (now (shares .entry)) (now (random .entry)) (now (list .entry)))
         (now (values .entry)) (watchReport r) (now (values .exit)) ⌝ }
 {
-    let total = step_count(width, s);
+    let total = step_count(width, outputs_of(rec), s);
     let past = first_past(total, list);
     if past < list.len() {
         return WatchAnswer::refuse(8, past);

@@ -18,30 +18,30 @@ fn fitted(table: &[u8], work: &mut [u8], record: &mut [u8]) -> bool {
 }
 
 // Prints the parts of a record, so that the reader sees its layout.
-fn show_record(record: &[u8; 33]) {
+fn show_record(record: &[u8; 34]) {
     let bytes = &record[..];
-    text::print_row(b"    head    ", &bytes[0..6]);
-    text::print_row(b"    q1      ", &bytes[6..15]);
-    text::print_row(b"    p1      ", &bytes[15..24]);
-    text::print_row(b"    p2      ", &bytes[24..33]);
+    text::print_row(b"    head    ", &bytes[0..7]);
+    text::print_row(b"    q1      ", &bytes[7..16]);
+    text::print_row(b"    p1      ", &bytes[16..25]);
+    text::print_row(b"    p2      ", &bytes[25..34]);
 }
 
 // Fits the table and prints its record.
-fn show_fit(table: &[u8], work: &mut [u8], record: &mut [u8; 33]) {
+fn show_fit(table: &[u8], work: &mut [u8], record: &mut [u8; 34]) {
     if fitted(table, work, &mut *record) {
         show_record(record);
     }
 }
 
 // Shows what every sealing begins with: a table becomes a record, once.
-pub fn part(record: &mut [u8; 33]) {
+pub fn part(record: &mut [u8; 34]) {
     let table = example::TABLE;
     let mut work = [0u8; 448];
     text::print(b"\n1. A record of the S-box\n\n");
     text::print(b"House fit writes PRESENT's S-box as p1(x) q1(x) + p2(x), which can be\n");
-    text::print(b"computed in shares. This is done once. The record is no secret; it has 33\n");
-    text::print(b"bytes: a head (mark, version, width) and the coefficients of three\n");
-    text::print(b"polynomials.\n\n");
+    text::print(b"computed in shares. This is done once. The record is no secret; it has 34\n");
+    text::print(b"bytes: a head (mark, version, width, output bits) and the coefficients of\n");
+    text::print(b"three polynomials.\n\n");
     text::print_row(b"    table   ", &table);
     show_fit(&table, &mut work, record);
 }

@@ -19,7 +19,7 @@ fn open_page() {
 
 // A part that is refused says so and stops; the parts after it then answer to what it left.
 fn main() {
-    let mut record = [0u8; 33];
+    let mut record = [0u8; 34];
     let mut key = [0u8; 30];
     let mut block = [0u8; 24];
     let mut random = [0u8; 1581];

@@ -90,7 +90,7 @@ fn show_sealed(
 }
 
 // Shows the sealing itself: shares in, shares out.
-pub fn part(record: &[u8; 33], key: &[u8], shares: &[u8], random: &[u8]) {
+pub fn part(record: &[u8; 34], key: &[u8], shares: &[u8], random: &[u8]) {
     let published = example::PUBLISHED;
     let mut out = [0u8; 24];
     let mut sum = [0u8; 8];

@@ -82,7 +82,7 @@ fn judge_steps() {
 }
 
 // Shows what a probe on a few wires sees of the same run.
-pub fn part(record: &[u8; 33], key: &[u8], shares: &[u8], random: &[u8]) {
+pub fn part(record: &[u8; 34], key: &[u8], shares: &[u8], random: &[u8]) {
     let list = example::WATCHED;
     let mut values = [0u8; 7];
     text::print(b"\n4. A few steps watched\n\n");

@@ -19,7 +19,8 @@ fn answer_of(a: FitAnswer) -> answer::Answer {
 
 pub fn try_fit(file: &[u8], at: usize) -> answer::Trial {
     let width = next_of(4, file, before(at));
-    let table = next(file, width);
+    let bits = next_of(4, file, width);
+    let table = next(file, bits);
     let basis = next(file, table);
     let work_before = next_filled(file, basis);
     let out_before = next(file, work_before);
@@ -32,6 +33,7 @@ pub fn try_fit(file: &[u8], at: usize) -> answer::Trial {
     let out = areas::lent(part(file, out_before), &mut out_space);
     let a = fit(
         numbers::number32(part(file, width)),
+        numbers::number32(part(file, bits)),
         part(file, table),
         part(file, basis),
         &mut *work,

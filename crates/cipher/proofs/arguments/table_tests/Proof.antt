@@ -6,7 +6,7 @@ use Rattle.refusal.specs.Outcome.{done, test}
 use Rattle.refusal.proofs.Outcome.{passed}
 use Rattle.decomposition.specs.Layout.{layout}
 use Rattle.decomposition.specs.Record.{widthOf, readOutcome}
-use Rattle.decomposition.specs.Check.{recordForm, firstDifference, checkReport}
+use Rattle.decomposition.specs.Check.{recordOutput, firstDifference, checkReport}
 use Rattle.decomposition.proofs.ReadOutcome.{read-accepted}
 use Rattle.present.specs.Present.{table}
 use Rattle.cipher.specs.Operations.{computesTable, recordTests}
@@ -36,7 +36,7 @@ four c = rw (c .if1 .left) at (c .before .before .pre)
 
 -- what Check says of the table
 checked : (c : tie.After-check) → let r = c .before .before .before .before .args .rec .now in
-    checkReport (c .check .result) ≡ test (computesTable r) 6 (firstDifference (recordForm (layout 4) r) table) (done [])
+    checkReport (c .check .result) ≡ test (computesTable r) 6 (firstDifference (recordOutput (layout 4 4) r) table) (done [])
 unfolding table
 checked c = c .check .ensures ∙ check-tests (c .before .before .before .before .args .rec .now) (four (c .before .before))
 

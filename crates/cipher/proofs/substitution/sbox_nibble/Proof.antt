@@ -4,6 +4,7 @@ use Rattle.steps.specs.ShareBytes.{sharing}
 use Rattle.cipher.specs.Box.{recordSbox}
 use Rattle.cipher.proofs.Nibbles.{nibble-ready, closed-result, nibble-substituted}
 use borrow.Author.Needs.{needs}
+use Rattle.decomposition.proofs.Sizes.{same-pair}
 use Rattle.cipher.proofs.substitution.sbox_nibble.Statement.{statement}
 use Rattle.cipher.proofs.substitution.sbox_nibble.Tie as tie
 
@@ -15,7 +16,7 @@ run-requires c κs =
     let taken = c .before .before in
     let start = c .before .before .before .before .before .before .before .before .before in
     let a = start .args in (
-      refl,
+      same-pair 4 refl,
       (
         (search needs, search needs),
         nibble-ready (recordSbox (a .s) (a .coefficients .now)) (a .k) (sharing (a .w) (a .s) (a .l .now)) _ (taken .column .ensures) (start .pre .1 .1),

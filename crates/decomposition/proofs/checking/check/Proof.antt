@@ -1,14 +1,12 @@
 -- `decomposition::check` meets its contract. By what Read answers.
 use mathlib.Core.List.{[], _∷_}
 use mathlib.Core.Path.{_≡_, _∙_, ap, sym}
-use lib.ListN.{getD}
 use borrow.Author.Needs.{needs}
 use Rattle.refusal.specs.Outcome.{Outcome, done, andThen}
 use Rattle.decomposition.specs.Check.{checkAt, checkOutcome}
-use Rattle.decomposition.specs.Layout.{layout, recordSize}
-use Rattle.decomposition.specs.Record.{Accepted, readOutcome, readReport}
+use Rattle.decomposition.specs.Record.{Accepted, layoutOf, outputsOf, readOutcome, readReport}
 use Rattle.decomposition.specs.declared.layouts.Layout.{Layout}
-use Rattle.decomposition.proofs.ReadOutcome.{read-accepted}
+use Rattle.decomposition.proofs.ReadOutcome.{head-within, read-accepted}
 use Rattle.decomposition.proofs.Sizes.{sizes}
 use Rattle.decomposition.proofs.checking.check.Statement.{statement}
 use Rattle.decomposition.proofs.checking.check.Tie as tie
@@ -29,14 +27,19 @@ enum-known-answer c = search needs
 enum-known-answer-2 : tie.Need-enum-known-answer-2
 enum-known-answer-2 c = search needs
 
-layout-of-requires : tie.Need-layout-of-requires
-layout-of-requires c κs = accepted (c .before) .width
+layout-in-requires : tie.Need-layout-in-requires
+layout-in-requires c κs =
+    let r = c .before .before .before .before .before .before .args .bytes .now in
+    let a = accepted (c .before) in
+    (head-within r (c .before .answer2 .given .0 .0) a, rw (a .named) (a .pair))
 
 check-at-requires : tie.Need-check-at-requires
 check-at-requires c κs =
-    let a = accepted (c .before .before) in
-    let n = c .before .before .answer2 .given .0 .0 in
-    (rw (c .layout-of .ensures) (sizes n (a .width)), a .whole ∙ ap (λ (L : Layout). recordSize L) (sym (c .layout-of .ensures)))
+    let r = c .before .before .before .before .before .before .before .args .bytes .now in
+    let a = accepted (c .before .before) in (
+      rw (c .layout-in .ensures, a .named) (sizes (c .before .before .answer2 .given .0 .0) (outputsOf r) (a .pair)),
+      rw (c .layout-in .ensures, a .named) (a .whole),
+    )
 
 returns : tie.Need-returns
 unfolding checkOutcome
@@ -44,7 +47,7 @@ returns c =
     let s = c .before .before .before .before .before .before .before in
     let r = s .args .bytes .now in
     let e = sym (c .before .before .before .before .read .ensures) ∙ ap readReport (c .before .before .answer .given .1) in
-    c .refuse .ensures ∙ sym (ap (λ (t : Outcome). andThen t (checkAt (layout (getD r 5 0)) r (s .args .table .now))) e)
+    c .refuse .ensures ∙ sym (ap (λ (t : Outcome). andThen t (checkAt (layoutOf r) r (s .args .table .now))) e)
 
 returns-2 : tie.Need-returns-2
 unfolding checkOutcome
@@ -52,10 +55,9 @@ returns-2 c =
     let s = c .before .before .before .before .before .before .before .before in
     let r = s .args .bytes .now in
     let table = s .args .table .now in
-    let a = c .before .before .before in
     c .check-at .ensures
-    ∙ ap (λ (L : Layout). checkAt L r table) (c .before .layout-of .ensures ∙ ap layout (sym (accepted a .named)))
-    ∙ sym (ap (λ (t : Outcome). andThen t (checkAt (layout (getD r 5 0)) r table)) (read-done a))
+    ∙ ap (λ (L : Layout). checkAt L r table) (c .before .layout-in .ensures)
+    ∙ sym (ap (λ (t : Outcome). andThen t (checkAt (layoutOf r) r table)) (read-done (c .before .before .before)))
 
 pub check-spec : {M : Type 1} → statement M
 check-spec =
@@ -65,7 +67,7 @@ check-spec =
     enum-known-answer
     (λ c κs. search needs)
     enum-known-answer-2
-    layout-of-requires
+    layout-in-requires
     check-at-requires
     returns
     returns-2)

@@ -103,7 +103,7 @@ returns c =
     let d : at-loop .loop .i * L .exponents ≡ L .unknowns =
     let e : at-loop .loop .i ≡ L .terms = omega arith in ap (λ (k : ℕ). k * L .exponents) e ∙ sym (s .pre .0 .unknowns) in
     let u : Overwritten (s .args .work .now) (at-loop .loop .work) (s .args .a) (L .unknowns) (unknownColumn L q x) = rw d at (at-loop .loop .inv .2 x h) in
-    overwritten-more (overwritten-values u (λ j l. sym (equation-column L q x (s .args .v) j l)))
+    overwritten-more (at-loop .loop .work) (overwritten-values u (λ j l. sym (equation-column L q x (s .args .v) j l)))
     (omega (arith, s .pre .1 .below, s .pre .1 .room, at-loop .loop .inv .1)) (s .args .v) (sym (equation-right L q x (s .args .v)))
 
 pub equation-at-spec : {M : Type 1} → statement M

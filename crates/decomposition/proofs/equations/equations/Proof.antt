@@ -68,7 +68,7 @@ equation-at-requires c κs =
       record {
         whole = s .pre .1 .whole;
         below = omega (arith, row-fits (c .before .before));
-        room = omega (arith, powers-fit (c .before .before), z .work, s .pre .1 .room, at-loop .loop .inv .1);
+        room = omega (arith, powers-fit (c .before .before), s .pre .1 .room, at-loop .loop .inv .1);
       },
     )
 

@@ -50,7 +50,7 @@ loop-again c =
     let u = at-loop .loop .inv .2 in (
       omega arith,
       length-set (at-loop .loop .work) (s .args .a + j) _ ∙ at-loop .loop .inv .1,
-      overwritten-more u (omega arith) _ (c .mul .ensures ∙ ap (mul (s .args .width) (s .args .f)) (u .high (s .args .p + j) (omega arith))),
+      overwritten-more (at-loop .loop .work) u (omega arith) _ (c .mul .ensures ∙ ap (mul (s .args .width) (s .args .f)) (u .high (s .args .p + j) (omega arith))),
     )
 
 same-length : tie.Need-same-length Inv-loop μ-loop

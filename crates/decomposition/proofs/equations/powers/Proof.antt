@@ -32,7 +32,6 @@ mul-power-row c =
     omega (
       arith,
       room (c .before),
-      c .before .before .before .before .pre .0 .work,
       powers-few
           (c .before .before .before .before .pre .0),
       inputs-few (c .before .before .before .before .pre .0),
@@ -43,7 +42,6 @@ add-power-row c =
     omega (
       arith,
       room (c .before),
-      c .before .before .before .before .pre .0 .work,
       powers-few
           (c .before .before .before .before .pre .0),
       inputs-few (c .before .before .before .before .pre .0),
@@ -56,7 +54,7 @@ power-row-requires : tie.Need-power-row-requires Inv-loop μ-loop
 power-row-requires c κs =
     let s = c .before .before .before .before in
     let z = s .pre .0 in
-    (z .width, (omega (arith, z .inputs), omega (arith, z .listed), omega (arith, room (c .before), z .work, s .pre .1, c .before .before .loop .inv .1)))
+    (z .width, (omega (arith, z .inputs), omega (arith, z .listed), omega (arith, room (c .before), s .pre .1, c .before .before .loop .inv .1)))
 
 add-x : tie.Need-add-x Inv-loop μ-loop
 add-x c = omega arith

@@ -51,7 +51,7 @@ loop-again c =
     let j = at-loop .loop .j in (
       omega arith,
       length-set (at-loop .loop .out) (s .args .a + j) _ ∙ at-loop .loop .inv .1,
-      overwritten-more (at-loop .loop .inv .2) (omega arith) _ (c .next-power .ensures ∙ ap (pow (s .args .width) (s .args .x)) (c .before .exponent .ensures)),
+      overwritten-more (at-loop .loop .out) (at-loop .loop .inv .2) (omega arith) _ (c .next-power .ensures ∙ ap (pow (s .args .width) (s .args .x)) (c .before .exponent .ensures)),
       c .next-power .ensures,
     )
 

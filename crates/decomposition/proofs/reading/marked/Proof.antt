@@ -1,9 +1,11 @@
 -- `decomposition::marked` meets its contract.
-use mathlib.Core.Path.{refl}
+use mathlib.Core.Bool.{_||_}
+use mathlib.Core.Path.{_≡_, refl, sym, _∙_}
+use lib.Dec.{eqb}
 use lib.ListN.{getD}
 use borrow.Author.Needs.{needs}
 use borrow.Author.Tests.{eq-eqb, ne-eqb}
-use Rattle.decomposition.specs.Record.{marked}
+use Rattle.decomposition.specs.Record.{marked, versionOf}
 use Rattle.decomposition.proofs.reading.marked.Statement.{statement}
 use Rattle.decomposition.proofs.reading.marked.Tie as tie
 
@@ -42,19 +44,24 @@ returns-4 c =
       ne-eqb _ _ (c .if4 .taken),
     )
 
-shared-slice-read-result : tie.Need-shared-slice-read-result
-shared-slice-read-result c = search needs
+-- where the first four bytes are right, the version decides
+by-version : (c : tie.Else4) → let r = c .before .before .before .before .before .before .before .before .args .bytes .now in
+    marked r ≡ (eqb (versionOf r) 1 || eqb (versionOf r) 2)
+unfolding marked
+by-version c =
+    let r = c .before .before .before .before .before .before .before .before .args .bytes .now in
+    rw (
+      eq-eqb (getD r 0 0) 68 (c .before .before .before .before .before .before .if1 .left),
+      eq-eqb (getD r 1 0) 67 (c .before .before .before .before .if2 .left),
+      eq-eqb (getD r 2 0) 80 (c .before .before .if3 .left),
+      eq-eqb (getD r 3 0) 0 (c .if4 .left),
+    ) refl
 
 returns-5 : tie.Need-returns-5
-unfolding marked
-returns-5 c =
-    let r = c .before .before .before .before .before .before .before .before .before .args .bytes .now in
-    rw (
-      eq-eqb (getD r 0 0) 68 (c .before .before .before .before .before .before .before .if1 .left),
-      eq-eqb (getD r 1 0) 67 (c .before .before .before .before .before .if2 .left),
-      eq-eqb (getD r 2 0) 80 (c .before .before .before .if3 .left),
-      eq-eqb (getD r 3 0) 0 (c .before .if4 .left),
-    ) refl
+returns-5 c = sym (by-version (c .before .before) ∙ rw (eq-eqb _ 1 (c .if5 .taken)) refl)
+
+returns-6 : tie.Need-returns-6
+returns-6 c = sym (by-version (c .before .before .before) ∙ rw (ne-eqb _ 1 (c .before .if5 .left)) refl)
 
 pub marked-spec : {M : Type 1} → statement M
 marked-spec =
@@ -68,5 +75,7 @@ marked-spec =
     returns-3
     shared-slice-read-if4
     returns-4
-    shared-slice-read-result
-    returns-5)
+    (λ c. search needs)
+    (λ c. search needs)
+    returns-5
+    returns-6)

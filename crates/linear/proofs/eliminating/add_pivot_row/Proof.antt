@@ -1,12 +1,12 @@
--- `linear::add_pivot_row` meets its contract: what the calls say of the bytes is said of the rows (`pivot-added-row`).
+-- `linear::add_pivot_row` meets its contract: what the calls say of the bytes is said of the rows (`added-row`).
 use mathlib.Core.Path.{ap}
 use Prim.Native.Nat.{_*_, ℕ}
 use native.Mathlib.Omega.{arith}
 use borrow.Author.Needs.{needs}
 use Rattle.linear.specs.Buffer.{from}
 use Rattle.linear.specs.Scalars.{scalars}
-use Rattle.linear.proofs.Buffer.{overwritten-values, row-room}
-use Rattle.linear.proofs.Turns.{pivot-added-row}
+use Rattle.linear.proofs.Buffer.{overwritten-first, overwritten-values, row-room}
+use Rattle.linear.proofs.Turns.{added-row}
 use Rattle.linear.proofs.eliminating.add_pivot_row.Statement.{statement}
 use Rattle.linear.proofs.eliminating.add_pivot_row.Tie as tie
 
@@ -26,7 +26,7 @@ slice-aggregate-copy-row c = search needs
 copy-row-requires : tie.Need-copy-row-requires
 copy-row-requires c κs =
     let s = c .before .before .before .before in
-    (row-room (s .args .columns) (s .pre .1 .2) (s .pre .1 .0 .room), s .pre .1 .3)
+    (row-room (s .args .columns) (s .pre .1 .2) (s .pre .1 .0 .room), omega (arith, s .pre .1 .3))
 
 slice-aggregate-add-multiple : tie.Need-slice-aggregate-add-multiple
 slice-aggregate-add-multiple c = search needs
@@ -47,10 +47,10 @@ returns c =
     let s = c .before .before .before .before .before .before .before .before .before .before .before in
     let w = c .before .before .before .before .before .before .copy-row in
     let S = scalars (s .args .width) in
-    pivot-added-row (s .args .rows) (s .args .columns) (s .args .rank) (s .args .pivot)
+    added-row (s .args .rows) (s .args .columns) 1 (s .args .rank) (s .args .pivot)
     (c .before .before .before .before .before .before .before .before .before .if1 .taken)
     (overwritten-values (c .before .before .add-multiple .ensures) (λ k l. ap
-    (λ (y : ℕ). S .add (from (s .args .matrix .now) (s .args .rank * s .args .columns) k) (S .mul 1 y)) (w .ensures .at k l)))
+    (λ (y : ℕ). S .add (from (s .args .matrix .now) (s .args .rank * s .args .columns) k) (S .mul 1 y)) (overwritten-first (w .ensures) .at k l)))
 
 returns-2 : tie.Need-returns-2
 returns-2 c = search needs

@@ -10,7 +10,7 @@ use Rattle.linear.specs.Row.{Agree}
 use Rattle.linear.specs.Scalars.{scalars}
 use Rattle.linear.proofs.Buffer.{overwritten-values, row-room}
 use Rattle.linear.proofs.Steps.{cleared-none}
-use Rattle.linear.proofs.Turns.{cleared-more, cleared-skip}
+use Rattle.linear.proofs.Turns.{added-itself, added-row, cleared-more}
 use Rattle.linear.proofs.eliminating.clear_rows.Statement.{statement}
 use Rattle.linear.proofs.eliminating.clear_rows.Tie as tie
 
@@ -69,11 +69,16 @@ loop-again c =
     (λ v. (
       omega arith,
       ap length (v .6) ∙ v .3 .kept .1 .0 ∙ at-loop .loop .inv .1,
-      rw (v .6) (cleared-more (s .args .matrix .now) (s .args .rows) w (s .args .column) (s .args .rank) i (s .pre .1 .1) im (v .0 .taken) x
+      rw (v .6) (cleared-more (s .pre .1 .1) im (s .pre .1 .2) x
+          (added-row (s .args .rows) w (cell w l i (s .args .column)) i (s .args .rank) (λ e. v .0 .taken (sym e))
           (overwritten-values (v .3 .ensures) (λ k h. ap (λ (y : ℕ). S .add (from l (i * w) k) (S .mul (cell w l i (s .args .column)) y))
-          (same .at k h)))),
+          (same .at k h))))),
     ))
-    (λ v. (omega arith, ap length (v .1) ∙ at-loop .loop .inv .1, rw (v .1) (cleared-skip (v .0 .left) x)))
+    (λ v. (
+      omega arith,
+      ap length (v .1) ∙ at-loop .loop .inv .1,
+      rw (v .1) (cleared-more (s .pre .1 .1) im (s .pre .1 .2) x (added-itself (s .args .rows) w (cell w l) (sym (v .0 .left)))),
+    ))
     (c .if1 .came)
 
 same-length : tie.Need-same-length Inv-loop μ-loop

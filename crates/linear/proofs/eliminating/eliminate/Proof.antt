@@ -3,12 +3,10 @@ use mathlib.Core.Path.{_≡_, refl, _∙_}
 use Prim.Native.Nat.{_+_, _-_, _≤_}
 use native.Mathlib.Omega.{arith}
 use lib.ListN.{length}
-use Rattle.field.proofs.Power.{reduced}
 use Rattle.linear.specs.Buffer.{cell}
 use Rattle.linear.specs.Elimination.{Eliminated}
 use Rattle.linear.specs.Scalars.{scalars}
-use Rattle.linear.proofs.Reduced.{equivalent-refl, reduced-start}
-use Rattle.linear.proofs.Steps.{eliminated-self, eliminated-trans}
+use Rattle.linear.proofs.Steps.{eliminated-self, eliminated-start, eliminated-trans}
 use Rattle.linear.proofs.eliminating.eliminate.Statement.{statement}
 use Rattle.linear.proofs.eliminating.eliminate.Tie as tie
 
@@ -22,19 +20,7 @@ add-w : tie.Need-add-w Inv-loop μ-loop
 add-w c = omega arith
 
 loop-holds : tie.Need-loop-holds Inv-loop μ-loop
-loop-holds c =
-    let s = c .before in
-    let w = s .args .unknowns + 1 in
-    let M = cell w (s .args .matrix .now) in (
-      omega arith,
-      refl,
-      record {
-        elements = s .pre .1 .0 .elements;
-        equivalent = equivalent-refl (scalars (s .args .width))
-            (s .args .rows) w M;
-        reduced = reduced-start (s .args .rows) M;
-      },
-    )
+loop-holds c = let s = c .before in (omega arith, refl, eliminated-start (cell (s .args .unknowns + 1) (s .args .matrix .now)) (s .pre .1 .0 .elements))
 
 eliminate-column-requires : tie.Need-eliminate-column-requires Inv-loop μ-loop
 eliminate-column-requires c κs =

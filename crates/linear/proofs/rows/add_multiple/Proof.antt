@@ -55,7 +55,7 @@ loop-again c =
     let u = at-loop .loop .inv .2 in (
       omega arith,
       length-set l (s .args .a + k) _ ∙ at-loop .loop .inv .1,
-      overwritten-more u (omega (arith, s .pre .1 .0)) _
+      overwritten-more l u (omega (arith, s .pre .1 .0)) _
           (⊕-is (getD l (s .args .a + k) 0) (c .mul .result)
           ∙ ap₂ (scalars (s .args .width) .add) (u .high (s .args .a + k) (omega arith)) (c .mul .ensures)),
     )

@@ -50,7 +50,7 @@ loop-again c =
     let u = at-loop .loop .inv .2 in (
       omega arith,
       length-set (at-loop .loop .matrix) (at-start .args .a + k) _ ∙ at-loop .loop .inv .1,
-      overwritten-more u (omega arith) _ (c .mul .ensures ∙ ap (scalars (at-start .args .width) .mul (at-start .args .f))
+      overwritten-more (at-loop .loop .matrix) u (omega arith) _ (c .mul .ensures ∙ ap (scalars (at-start .args .width) .mul (at-start .args .f))
           (u .high (at-start .args .a + k) (omega arith))),
     )
 

@@ -37,7 +37,7 @@ returns-2 c =
 
 -- the lengths are right
 lengths-right : (c : tie.Else2) → let a = start c .args in
-    sboxLengths (a .width) (a .s) (length (a .shares .now)) (length (a .random .now)) (a .fits) ≡ true
+    sboxLengths (a .width) (a .outputs) (a .s) (length (a .shares .now)) (length (a .random .now)) (a .fits) ≡ true
 lengths-right c = test-passes (c .before .lengths-fit .ensures) (c .if2 .left)
 
 element-tests-requires : tie.Need-element-tests-requires
@@ -45,8 +45,16 @@ element-tests-requires c κs =
     let a = start c .args in
     let w = start c .pre in
     let range = one-to-range _ _ (share-count (c .before .before)) in
-    let h = call-lengths _ _ _ _ _ (lengths-right c) in
-    (w, omega (arith, range, h .0, few-taken (a .width) (a .s) w (range .1), elements-few (a .width) (a .random .now) (sboxDraws (a .width) (a .s)) (h .1)))
+    let h = call-lengths _ _ _ _ _ _ (lengths-right c) in (
+      w .width,
+      omega (
+        arith,
+        range,
+        h .0,
+        few-taken (a .width) (a .outputs) (a .s) w (range .1),
+        elements-few (a .width) (a .random .now) (sboxDraws (a .width) (a .outputs) (a .s)) (h .1),
+      ),
+    )
 
 returns-3 : tie.Need-returns-3
 unfolding argumentTests

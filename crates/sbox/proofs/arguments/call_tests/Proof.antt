@@ -4,7 +4,7 @@ use mathlib.Core.Path.{_≡_, _∙_, ap, sym}
 use borrow.Author.Needs.{needs}
 use Rattle.refusal.specs.Outcome.{done}
 use Rattle.decomposition.specs.Record.{Accepted, readOutcome, readReport}
-use Rattle.decomposition.proofs.ReadOutcome.{read-accepted}
+use Rattle.decomposition.proofs.ReadOutcome.{head-within, read-accepted}
 use Rattle.sbox.specs.Operations.{callTests}
 use Rattle.sbox.proofs.arguments.call_tests.Statement.{statement}
 use Rattle.sbox.proofs.arguments.call_tests.Tie as tie
@@ -25,8 +25,11 @@ enum-known-answer c = search needs
 enum-known-answer-2 : tie.Need-enum-known-answer-2
 enum-known-answer-2 c = search needs
 
+outputs-of-requires : tie.Need-outputs-of-requires
+outputs-of-requires c κs = head-within _ _ (accepted (c .before))
+
 argument-tests-requires : tie.Need-argument-tests-requires
-argument-tests-requires c κs = accepted (c .before) .width
+argument-tests-requires c κs = rw (c .outputs-of .ensures) (accepted (c .before .before) .pair)
 
 returns : tie.Need-returns
 unfolding callTests
@@ -37,8 +40,8 @@ returns c =
 returns-2 : tie.Need-returns-2
 unfolding callTests
 returns-2 c =
-    let a = c .before .before in
-    rw (read-done a, accepted a .named) (c .argument-tests .ensures)
+    let a = c .before .before .before in
+    rw (read-done a, accepted a .named, ← (c .before .outputs-of .ensures)) (c .argument-tests .ensures)
 
 pub call-tests-spec : {M : Type 1} → statement M
 call-tests-spec =
@@ -48,6 +51,7 @@ call-tests-spec =
     enum-known-answer
     (λ c κs. search needs)
     enum-known-answer-2
+    outputs-of-requires
     argument-tests-requires
     returns
     returns-2)

@@ -17,7 +17,7 @@ draw-count-requires c κs = search needs
 
 -- the number of shares is right, so it is by that of the random bytes
 by-random : (c : tie.After-bytes-for) → let a = c .before .before .before .args in
-    sboxLengths (a .width) (a .count) (a .shares) (a .random) (a .fits) ≡ (eqb (a .random) (c .bytes-for .result) && a .fits)
+    sboxLengths (a .width) (a .outputs) (a .count) (a .shares) (a .random) (a .fits) ≡ (eqb (a .random) (c .bytes-for .result) && a .fits)
 unfolding sboxLengths
 by-random c = rw (eq-eqb _ _ (c .before .before .if1 .left), ← (c .before .draw-count .ensures), ← (c .bytes-for .ensures))
 

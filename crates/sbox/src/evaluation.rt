@@ -109,8 +109,8 @@ fn evaluate(
     }
 }
 
-// The masked S-box of the sharing x, of s shares, by the coefficients of a record of the width with so many output bits. The width is tested here, so that
-// the number of powers is known in each case.
+// The masked S-box of the sharing x, of s shares, by the coefficients of a record of the width with so many output bits.
+// The width is tested here, so that the number of powers is known in each case.
 pub fn run(
     width: u32,
     outputs: u32,

@@ -15,8 +15,8 @@
 // A word not in use is 0.
 //
 // Refusals. Each function lists its tests in the order in which they run; the first that fails is the answer, and nothing else is
-// refused. A refusal leaves everything lent for writing but `answer` as it was, except that the work area of ll_fit and ll_house_fit is
-// all zero after a 4. The place of a 3 outside a record is that of the first such entry, counted through the slices named.
+// refused. A refusal leaves everything lent for writing but `answer` as it was, except that the work area of ll_fit is all zero after
+// a 4. The place of a 3 outside a record is that of the first such entry, counted through the slices named.
 //
 // Shares. s is 1 to 9. A sharing lies share 0 first; the value is the sum (exclusive or) of its shares. Masks and random bytes come from
 // the caller, fresh for each call and uniform: the library makes none.
@@ -38,7 +38,7 @@ enum {
     LL_WIDTH = 1,       // a width that is not 4 or 6; a record of width 6 for a block
     LL_LENGTH = 2,      // a length
     LL_TOO_LARGE = 3,   // an entry that is no element of the field
-    LL_NO_FIT = 4,      // no decomposition over this basis meets the table
+    LL_NO_FIT = 4,      // no decomposition over this basis meets the table (ll_fit alone)
     LL_MARK = 5,        // the mark or the version of a record
     LL_OTHER_TABLE = 6, // the record stands for another table
     LL_SHARE_COUNT = 7, // a share count that is not 1 to 9
@@ -70,8 +70,9 @@ void ll_check(const uint8_t *record, size_t record_len, const uint8_t *table, si
 void ll_fit(uint32_t width, uint32_t bits, const uint8_t *table, size_t table_len, const uint8_t *basis, size_t basis_len,
     uint8_t *work, size_t work_len, uint8_t *record, size_t record_len, uint64_t answer[4]);
 
-// House fit: Fit with width and output bits 4 over the house basis q1 = x + x^2 + x^12.
-// Refuses: 2, 3, 4 as ll_fit.
+// House fit: Fit with width and output bits 4 over the house basis q1 = x + x^2 + x^12, which decomposes every table.
+// Refuses: 2, 3 as ll_fit, and nothing else.
+// Work may hold anything; it is all zero after done, untouched after a refusal.
 void ll_house_fit(const uint8_t *table, size_t table_len, uint8_t *work, size_t work_len,
     uint8_t *record, size_t record_len, uint64_t answer[4]);
 

@@ -418,7 +418,7 @@ static void call_house_fit(uint32_t number, void *const *at, const size_t *len, 
     ll_house_fit(at[0], len[0], at[1], len[1], at[2], len[2], answer);
 }
 
-// There is no 4 here: the house basis reaches every table.
+// There is no 4 here: the house basis decomposes every table.
 static void test_house_fit(void)
 {
     static const struct operation op = {"ll_house_fit", 3, 2, call_house_fit};

@@ -566,6 +566,11 @@ def fit_wrong_entries(prng, good):
     yield fit_inputs(prng, pair, put(unit, size - 1, limits[0]), bytes(basis_length(pair)))
 
 
+def bit_tables():
+    """A table of width 4 for each bit of its entries: all tables are sums of these."""
+    return [put(bytes(16), bit // 4, 1 << bit % 4) for bit in range(64)]
+
+
 def fit_cases():
     prng = Prng(103)
     yield from fit_solvable_and_none(prng)
@@ -576,6 +581,8 @@ def fit_cases():
         yield from fit_wrong_pairs(good)
         yield from fit_wrong_lengths(prng, good)
         yield from fit_wrong_entries(prng, good)
+    for table in bit_tables():  # no 4 over the house basis, whoever passes it
+        yield fit_inputs(prng, (4, 4), table, HOUSE_BASIS)
 
 
 def house_fit_inputs(prng, table):
@@ -620,6 +627,8 @@ def house_fit_cases():
     for n in (0, 1, 32, 33, 35, 102, 140):
         yield change_length(prng, good, 2, n)
         yield change_length(prng, (put(good[0], 0, 16), *good[1:]), 2, n)
+    for table in bit_tables():
+        yield house_fit_inputs(prng, table)
 
 
 # ----------------------------------------------------------- S-box, its watch

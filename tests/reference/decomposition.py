@@ -218,4 +218,7 @@ def fit(width, bits, table, basis, work, record_out):
 
 
 def house_fit(table, work, record_out):
-    return fit(4, 4, table, HOUSE_BASIS, work, record_out)
+    """Fit over the house basis, which decomposes every table: there is no 4."""
+    answer = fit(4, 4, table, HOUSE_BASIS, work, record_out)
+    assert answer.number != NO_FIT
+    return answer

@@ -28,6 +28,7 @@ from cases import (
     PAIRS,
     PRESENT_TABLE,
     aes_parts,
+    bit_tables,
     block_parts,
     house_record,
     in_version,
@@ -337,8 +338,7 @@ def test_fit():
             if pair == (4, 4) or number % 4 == 0:
                 hold_to_definition(pair, table, basis)
     same("solved and unsolved cases", min(seen.values()) > 10 and len(seen), 6)
-    for _ in range(50):
-        table = prng.elements(16, 16)
+    for table in bit_tables() + [prng.elements(16, 16) for _ in range(50)]:
         same("house fit", check(house_record(table), table).number, 0)
     twin = twin_record(house_record(PRESENT_TABLE), 7, 11)
     same("twin record", check(twin, PRESENT_TABLE).number, 0)

@@ -15,7 +15,7 @@ use Rattle.steps.specs.Call as call
 use Rattle.steps.specs.Operations.{splitLengths, splitOutcome, joinLengths, joinOutcome}
 use Rattle.decomposition.specs.Record.{coefficientsOf, layoutOf, marked, outputsOf, readOutcome, versionOf, widthOf}
 use Rattle.decomposition.specs.Check.{checkOutcome, checkAt, firstDifference, recordOutput}
-use Rattle.decomposition.specs.Fit.{FitCall, fitLengths, fitOutcome, allTests}
+use Rattle.decomposition.specs.Fit.{FitCall, fitLengths, fitOutcome, allTests, houseBasis, houseOutcome}
 use Rattle.decomposition.specs.Layout.{head, known, layout, paired, recordSize}
 use Rattle.decomposition.specs.Solution.{solvable}
 use Rattle.sbox.specs.Operations as sbox
@@ -74,6 +74,12 @@ fit-told n m c =
     (told-below (L .entries) 0 (c .table) _
     (told-below (L .inputs) (length (c .table)) (c .basis) (done []) tt)))))
     (told-test (solvable L (c .table) (c .basis)) 4 0 (done []) (omega arith) tt)
+
+pub house-told : (table work out : List ℕ) → Told (houseOutcome table work out)
+unfolding houseOutcome
+house-told table work out =
+    told-test (fitLengths (layout 4 4) (length table) (length houseBasis) (length work) (length out)) 2 0 _ (omega arith)
+    (told-below 16 0 table (done []) tt)
 
 -- a masked call whose tests are such, and its watch
 call-told : (c : Call) (fits : Bool) → Told (c .tests fits) → Told (call.callOutcome c fits)

@@ -3,7 +3,7 @@ use mathlib.Core.Path.{_≡_, ap, _∙_}
 use mathlib.Core.List.{List}
 use Prim.Native.Nat.{ℕ}
 use Rattle.refusal.specs.Outcome.{Outcome, Answered}
-use Rattle.decomposition.specs.Fit.{FitCall, FitEnd, fitEnd}
+use Rattle.decomposition.specs.Fit.{FitEnd}
 use Rattle.capi.specs.Words.{words, Reported, ReportedFit}
 
 pub reported : {outcome report : Outcome} {new old answer left : List ℕ}
@@ -17,10 +17,10 @@ pub said : {outcome report : Outcome} {answer : List ℕ} → report ≡ outcome
 said a e = e ∙ ap words a
 
 -- the same for a fit
-pub reported-fit : {n m : ℕ} {c : FitCall} (e : FitEnd) {answer : List ℕ}
-    → e ≡ fitEnd n m c
+pub reported-fit : {end : FitEnd} (e : FitEnd) {answer : List ℕ}
+    → e ≡ end
     → answer ≡ words (e .outcome)
-    → ReportedFit n m c answer (e .work) (e .out)
+    → ReportedFit end answer (e .work) (e .out)
 reported-fit e a w = record {
   answered = w ∙ ap (λ (x : FitEnd). words (x .outcome)) a;
   work-left = ap (λ (x : FitEnd). x .work) a;

@@ -4,7 +4,7 @@ use mathlib.Core.List.{List, [], _∷_}
 use Prim.Native.Nat.{ℕ, _<_}
 use lib.ListN.{getD}
 use Rattle.refusal.specs.Outcome.{Outcome, done, refused, written}
-use Rattle.decomposition.specs.Fit.{FitCall, fitOutcome, fitWork, fitRecord}
+use Rattle.decomposition.specs.Fit.{FitEnd}
 
 -- the number, 0 for done; then the place, or up to three numbers that are handed back; 0 in words that are not used
 unfoldable pub words : Outcome → List ℕ
@@ -17,11 +17,12 @@ pub record Reported (outcome : Outcome) (new old answer left : List ℕ) : Type 
   pub answered : answer ≡ words outcome
   pub output : left ≡ written outcome new old
 
--- The contract of an exported fit of width n with m output bits: the words are those of its outcome, and the slices lent for the work and the record hold `work` and `out`.
-pub record ReportedFit (n m : ℕ) (c : FitCall) (answer work out : List ℕ) : Type 0 where
-  pub answered : answer ≡ words (fitOutcome n m c)
-  pub work-left : work ≡ fitWork n m c
-  pub record-left : out ≡ fitRecord n m c
+-- The contract of an exported fit that is to end in e: the words are those of its outcome, and the slices lent for the work and the record hold
+-- `work` and `out`.
+pub record ReportedFit (e : FitEnd) (answer work out : List ℕ) : Type 0 where
+  pub answered : answer ≡ words (e .outcome)
+  pub work-left : work ≡ e .work
+  pub record-left : out ≡ e .out
 
 -- a refusal has a number that is not 0, so that the first word tells it from done
 abbrev pub Told : Outcome → Type 0

@@ -5,7 +5,7 @@ ghost use lib.ListN.{length};
 ghost use Rattle.steps.specs.Operations.{splitOutcome, splitShares, joinOutcome, joinShares};
 ghost use Rattle.decomposition.specs.Record.{readOutcome};
 ghost use Rattle.decomposition.specs.Check.{checkOutcome};
-ghost use Rattle.decomposition.specs.Fit.{houseCall};
+ghost use Rattle.decomposition.specs.Fit.{fitEnd, houseEnd};
 ghost use Rattle.sbox.specs.Operations.{sboxOutcome, sboxOutput, watchOutcome, watchOutput};
 ghost use Rattle.cipher.specs.Operations.{blockOutcome, blockOutput, watchOutcome as block·watchOutcome, watchOutput as block·watchOutput};
 ghost use Rattle.aes.specs.Operations.{blockOutcome as aes·blockOutcome, blockOutput as aes·blockOutput, watchOutcome as aes·watchOutcome, watchOutput as aes·watchOutput};
@@ -65,8 +65,8 @@ pub extern "C" fn ll_fit(
     record: &mut [u8],
     answer: &mut [u64; 4],
 )
-    ensures { λ u. ⌜ ReportedFit width bits
-        (record { table = now (table .entry); basis = now (basis .entry); work = now (work .entry); out = now («record» .entry) })
+    ensures { λ u. ⌜ ReportedFit (fitEnd width bits
+        (record { table = now (table .entry); basis = now (basis .entry); work = now (work .entry); out = now («record» .entry) }))
         (now (answer .exit)) (now (work .exit)) (now («record» .exit)) ⌝ }
 {
     let a = decomposition::fit(width, bits, table, basis, work, record);
@@ -76,7 +76,7 @@ pub extern "C" fn ll_fit(
     }
 }
 
-// House fit hands nothing back: a fit of width 4 with 4 output bits over the house basis.
+// House fit hands nothing back.
 #[no_mangle]
 pub extern "C" fn ll_house_fit(
     table: &[u8],
@@ -84,7 +84,7 @@ pub extern "C" fn ll_house_fit(
     record: &mut [u8],
     answer: &mut [u64; 4],
 )
-    ensures { λ u. ⌜ ReportedFit 4 4 (houseCall (now (table .entry)) (now (work .entry)) (now («record» .entry)))
+    ensures { λ u. ⌜ ReportedFit (houseEnd (now (table .entry)) (now (work .entry)) (now («record» .entry)))
         (now (answer .exit)) (now (work .exit)) (now («record» .exit)) ⌝ }
 {
     let a = decomposition::house_fit(table, work, record);

@@ -35,16 +35,16 @@ use Rattle.decomposition.proofs.Columns.{column-small, equation-column,
 -- ---- lists of factors
 
 -- the list f 0, .. f (k - 1)
-listOf : ℕ → (ℕ → ℕ) → List ℕ
+pub listOf : ℕ → (ℕ → ℕ) → List ℕ
 listOf zero f = []
 listOf (suc k) f = f 0 ∷ listOf k (λ j. f (suc j))
 
-listOf-length : (k : ℕ) (f : ℕ → ℕ) → length (listOf k f) ≡ k
+pub listOf-length : (k : ℕ) (f : ℕ → ℕ) → length (listOf k f) ≡ k
 unfolding listOf
 listOf-length zero f = refl
 listOf-length (suc k) f = ap suc (listOf-length k (λ j. f (suc j)))
 
-listOf-at : (k : ℕ) (f : ℕ → ℕ) (j : ℕ) → j < k → getD (listOf k f) j 0 ≡ f j
+pub listOf-at : (k : ℕ) (f : ℕ → ℕ) (j : ℕ) → j < k → getD (listOf k f) j 0 ≡ f j
 unfolding listOf
 listOf-at zero f j h = absurd (omega arith)
 listOf-at (suc k) f zero h = refl

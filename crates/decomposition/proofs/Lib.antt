@@ -12,6 +12,7 @@ pub mod Solved
 pub mod ReadOutcome
 pub mod Settled
 pub mod Total
+pub mod House
 pub mod Accepted
 pub mod Reach
 pub mod Theorems

@@ -1,6 +1,6 @@
 -- What is proved of decompositions, of Fit and House fit, and of the records that they write.
 use mathlib.Core.List.{List, [], _∷_}
-use mathlib.Core.Logic.{⊎-elim}
+use mathlib.Core.Logic.{_⊎_, ⊎-elim}
 use mathlib.Core.Path.{_≡_, refl, sym, ap, ap₂, subst, _∙_}
 use Prim.Native.Nat.{ℕ, _%_, _^_, _<_}
 use native.Mathlib.Nat.{mod-eq-of-lt}
@@ -14,17 +14,18 @@ use Rattle.refusal.proofs.Large.{below-passes, none-large}
 use Rattle.refusal.proofs.Outcome.{then-passed}
 use Rattle.field.proofs.Polynomial.{length-exponents-4, length-exponents-6}
 use Rattle.decomposition.specs.Check.{checkOutcome, checkAt, firstDifference, formIn, recordForm}
-use Rattle.decomposition.specs.Fit.{FitCall, FitEnd, fitLengths, allTests, fitOutcome, fitWork, fitRecord, fitEnd, houseBasis, houseCall, Found, AfterTests, IsFit}
+use Rattle.decomposition.specs.Fit.{FitCall, FitEnd, fitLengths, allTests, FitReady, fitOutcome, fitWork, fitRecord, fitEnd, houseBasis, houseCall, houseEnd, houseOutcome, Written, Found, AfterTests, IsFit}
 use Rattle.decomposition.specs.Form.{Computes, Decomposition, ElementDecomposition, NoDecomposition, form}
 use Rattle.decomposition.specs.Layout.{layout, sized, termsOf, Known, Pair}
 use Rattle.decomposition.specs.Reach.{desTable, sumOver, zeroSumInputs}
 use Rattle.decomposition.specs.Record.{Accepted, SameRecord, basisOf, coefficientsOf, layoutOf, oldRecord, outputsOf, readOutcome, recordOf, solutionOf, widthOf}
 use Rattle.decomposition.proofs.Accepted.{old-record, written-check, written-read}
 use Rattle.decomposition.proofs.Decomposition.{decomposition-exists, decomposition-unique, decomposition-elements, elements-are, zero-decomposition}
+use Rattle.decomposition.proofs.House.{house-end, house-number, house-reaches, house-small}
 use Rattle.decomposition.proofs.Reach.{des-entries, des-length, des-sum, form-sum, table-sum}
 use Rattle.decomposition.proofs.ReadOutcome.{read-values, accepted-computes, accepted-read, accepted-small}
 use Rattle.decomposition.proofs.Settled.{Passed, fit-cases, fit-settled, tests-passed}
-use Rattle.decomposition.proofs.Sizes.{layout-outputs, layout-width, same-pair, sizes}
+use Rattle.decomposition.proofs.Sizes.{each-pair, layout-outputs, layout-width, same-pair, sizes}
 use Rattle.decomposition.proofs.Total.{fit-total}
 
 -- ---- THE decomposition, for each pair of width n and m output bits
@@ -126,6 +127,52 @@ module _ (n m : ℕ) (c : FitCall) {values : List ℕ} (f : fitOutcome n m c ≡
       ∙ written-check n m (x .pair) (c .basis) (x .found .p) (x .ready .whole) (d .unknowns) (x .ready .elements) (d .elements) (c .table)
       (x .ready .inputs) (x .ready .entries) (d .equal)
 
+-- ---- House fit
+
+-- every table of 16 entries below 16 has a decomposition over the house basis
+pub house-decomposes : (table : List ℕ) → Small 4 table → (p : List ℕ) × Decomposition (layout 4 4) table houseBasis p
+house-decomposes table st = let x = house-reaches table st in one-exists 4 4 table houseBasis st house-small (same-pair 4 refl) (x .0) (x .1)
+
+-- so a House fit ends as the fit over the house basis does,
+pub house-is-fit : (table work out : List ℕ) → fitEnd 4 4 (houseCall table work out) ≡ houseEnd table work out
+house-is-fit = house-end
+
+-- refuses by 2 or by 3 alone,
+pub house-refusals : (table work out : List ℕ) {number place : ℕ} → houseOutcome table work out ≡ refused number place → (number ≡ 2) ⊎ (number ≡ 3)
+house-refusals = house-number
+
+-- and past its tests writes the record of THE decomposition
+pub house-succeeds : (table work out : List ℕ) {values : List ℕ} → houseOutcome table work out ≡ done values
+    → Written (layout 4 4) (houseCall table work out) (houseEnd table work out .out) values
+house-succeeds table work out {values} h =
+    let e = house-is-fit table work out in
+    let c = houseCall table work out in
+    subst (λ (l : List ℕ). Written (layout 4 4) c l values) (ap (λ (x : FitEnd). x .out) e)
+    (passed-all 4 4 c (ap (λ (x : FitEnd). x .outcome) e ∙ h) .found)
+
+-- Fit never answers 4 where the caller passes the house basis
+pub house-never-four : (n m : ℕ) (c : FitCall) → c .basis ≡ houseBasis → (place : ℕ) → fitOutcome n m c ≡ refused 4 place → ⊥
+unfolding layout sized termsOf houseBasis
+house-never-four n m c b place h =
+    ⊎-elim (λ x. x .other (number-of (sym (x .is) ∙ h)))
+    (λ x. each-pair Never at-4 (λ y. absurd (other-length (rw length-exponents-6 at (y .whole)) (λ e. omega arith)))
+    (λ y. absurd (other-length (rw length-exponents-6 at (y .whole)) (λ e. omega arith))) n m (x .pair) (x .ready) (four-means-none n m c place h))
+    (fit-cases n m c (fitEnd n m c) (fit-total n m c))
+  where
+    number-of : {k p : ℕ} → refused k p ≡ refused 4 place → k ≡ 4
+    number-of e = cc
+
+    Never : ℕ → ℕ → Type 0
+    Never n m = FitReady (layout n m) c → ((p : List ℕ) → Computes (layout n m) (c .table) (c .basis) p → ⊥) → ⊥
+
+    at-4 : Never 4 4
+    at-4 y none =
+        let x = house-reaches (c .table) (y .entries) in
+        none (x .0) (subst (λ (basis : List ℕ). Computes (layout 4 4) (c .table) basis (x .0)) (sym b) (x .1))
+
+    other-length : {k : ℕ} → length (c .basis) ≡ k → (k ≡ 9 → ⊥) → ⊥
+    other-length e n = n (sym e ∙ ap length b)
+
 -- ---- Check
 
 -- the low output bits of the form of a record that Check accepts are the table
@@ -207,11 +254,12 @@ zero-table n m c q t =
 
 -- paper check (k): with the house basis
 pub zero-house : (work out : List ℕ) → length work ≡ 448 → length out ≡ 34
-    → let c = houseCall (replicate 16 0) work out in
-    (fitOutcome 4 4 c ≡ done []) × (fitRecord 4 4 c ≡ recordOf (layout 4 4) houseBasis (replicate 18 0))
+    → let e = houseEnd (replicate 16 0) work out in (e .outcome ≡ done []) × (e .out ≡ recordOf (layout 4 4) houseBasis (replicate 18 0))
 unfolding layout sized termsOf houseBasis firstLarge fitLengths
 zero-house work out lw lo =
-    rw length-exponents-4 at (zero-table 4 4 (houseCall (replicate 16 0) work out) refl (rw (lw, lo, length-exponents-4) refl))
+    let a = rw length-exponents-4 at (zero-table 4 4 (houseCall (replicate 16 0) work out) refl (rw (lw, lo, length-exponents-4) refl)) in
+    let h = sym (house-is-fit (replicate 16 0) work out) in
+    (ap (λ (e : FitEnd). e .outcome) h ∙ a .0, ap (λ (e : FitEnd). e .out) h ∙ a .1)
 
 -- ---- what cannot be decomposed
 

@@ -350,8 +350,3 @@ fit-total n m c = go (allTests n m c) refl
 -- an end with `IsFit` is the one defined
 pub fit-end : (n m : ℕ) (c : FitCall) (e : FitEnd) → IsFit n m c e → e ≡ fitEnd n m c
 fit-end n m c e f = fit-settled n m c e (fitEnd n m c) f (fit-total n m c)
-
--- the same where its outcome goes by another name
-pub fit-end-as : (n m : ℕ) (c : FitCall) (e : FitEnd) {o : Outcome} → e .outcome ≡ o → IsFit n m c e
-    → record { outcome = o; work = e .work; out = e .out } ≡ fitEnd n m c
-fit-end-as n m c e q f = ap (λ (o : Outcome). record { outcome = o; work = e .work; out = e .out }) (sym q) ∙ fit-end n m c e f

@@ -78,13 +78,28 @@ fitRecord n m c = written (fitOutcome n m c) (recordOf (layout n m) (c .basis) (
 abbrev pub fitEnd : ℕ → ℕ → FitCall → FitEnd
 fitEnd n m c = record { outcome = fitOutcome n m c; work = fitWork n m c; out = fitRecord n m c }
 
--- ---- House fit (table, work, record out): a fit of width 4 with 4 output bits over the house basis
+-- ---- House fit (table, work, record out): a fit of width 4 with 4 output bits over the house basis, which decomposes every table
 
 -- the house basis: q1 = x + x² + x^12
 unfoldable pub houseBasis : List ℕ
 houseBasis = 0 ∷ 1 ∷ 1 ∷ 0 ∷ 0 ∷ 0 ∷ 0 ∷ 1 ∷ 0 ∷ []
 
--- a call of House fit, as a call of Fit
+-- the outcome: the lengths, then the entries of the table, and no more
+unfoldable pub houseOutcome : List ℕ → List ℕ → List ℕ → Outcome
+houseOutcome table work out =
+    test (fitLengths (layout 4 4) (length table) (length houseBasis) (length work) (length out)) 2 0
+    (testBelow 16 0 table
+    (done []))
+
+-- the end: on success the work is all zero, and out holds the record of the house basis and of the p found
+abbrev pub houseEnd : List ℕ → List ℕ → List ℕ → FitEnd
+houseEnd table work out = record {
+  outcome = houseOutcome table work out;
+  work = written (houseOutcome table work out) (replicate (length work) 0) work;
+  out = written (houseOutcome table work out) (recordOf (layout 4 4) houseBasis (solution (layout 4 4) table houseBasis)) out;
+}
+
+-- the same call, as a call of Fit: it ends so (proofs/Theorems.antt, `house-is-fit`)
 abbrev pub houseCall : List ℕ → List ℕ → List ℕ → FitCall
 houseCall table work out = record { table = table; basis = houseBasis; work = work; out = out }
 

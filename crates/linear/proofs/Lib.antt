@@ -1,6 +1,7 @@
 pub mod Scalars
 pub mod Row
 pub mod System
+pub mod Inverse
 pub mod RowOperations
 pub mod Reduced
 pub mod Elimination

@@ -37,7 +37,7 @@ unfolding computed houseBasis products classes flatten exponents combination val
     turns iterate nibble replace onNibble present.table substitute place rotate onTopNibbles roundNumber updateKey
 rows = refl
 
--- a fit of the zero table: what is asked of a fit settles what is written
+-- House fit of the zero table: what is asked of a fit settles what is written
 zero-fit : zeroFit .given ≡ zeroFit .said
 zero-fit = zero-house (replicate 448 0) (replicate 34 255) refl refl .1
 

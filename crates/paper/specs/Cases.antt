@@ -7,7 +7,7 @@ use Rattle.field.specs.Mul.{mul}
 use Rattle.field.specs.Polynomial.{value}
 use Rattle.decomposition.specs.Layout.{layout}
 use Rattle.decomposition.specs.Record.{recordOf}
-use Rattle.decomposition.specs.Fit.{fitRecord, houseBasis, houseCall}
+use Rattle.decomposition.specs.Fit.{houseBasis, houseEnd}
 use Rattle.steps.specs.Program.{result, trace}
 use Rattle.steps.specs.Watch.{watched}
 use Rattle.steps.specs.Tape.{elements}
@@ -77,9 +77,9 @@ computed =
     ∷ gives (sboxSteps 4 4 3 ∷ sboxSteps 6 6 3 ∷ []) (213 ∷ 930 ∷ [])
     ∷ []
 
--- (k): the record that a fit of the zero table with the house basis writes, with zero p
+-- (k): the record that House fit of the zero table writes, with zero p
 abbrev pub zeroFit : Case
-zeroFit = gives (fitRecord 4 4 (houseCall zeroTable (replicate 448 0) (replicate 34 255))) (recordOf (layout 4 4) houseBasis (replicate 18 0))
+zeroFit = gives (houseEnd zeroTable (replicate 448 0) (replicate 34 255) .out) (recordOf (layout 4 4) houseBasis (replicate 18 0))
 
 -- (l): a value split by masks
 abbrev pub splitValue : Case

@@ -35,10 +35,11 @@ impl Tested {
 }
 
 // All tests. `fits` says whether what is lent for output has its length.
+// `&rec[..]`, not `rec`: handed on as it came, the slice would first be copied in memory (docs/ENGINEERING.md, Speed).
 pub fn call_tests(rec: &[u8], s: u32, shares: &[u8], random: &[u8], fits: bool) -> Tested
     ensures { λ r. ⌜ testedReport r ≡ callTests (now (rec .entry)) s (now (shares .entry)) (now (random .entry)) fits ⌝ }
 {
-    let answer = read(rec);
+    let answer = read(&rec[..]);
     match answer {
         ReadAnswer::Refused { number, place } => Tested::refuse(number, place),
         ReadAnswer::Done { width } => {

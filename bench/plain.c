@@ -611,11 +611,11 @@ INLINE int solve(unsigned n, const uint8_t *table, const uint8_t *basis, uint8_t
 {
     const size_t coefficients = n == 4 ? COEFFICIENTS_4 : COEFFICIENTS_6, terms = n == 4 ? TERMS_4 : TERMS_6;
     const size_t rows = n == 4 ? ELEMENTS_4 : ELEMENTS_6, unknowns = terms * coefficients, columns = unknowns + 1;
-    element *powers = work + rows * columns;
-    for (size_t x = 0; x < rows; x++)
-        powers_of(n, (element)x, powers + x * coefficients);
-    for (size_t x = 0; x < rows; x++)
-        equation(n, basis, powers + x * coefficients, table[x], work + x * columns);
+    for (size_t x = 0; x < rows; x++) {
+        element power[COEFFICIENTS_6];
+        powers_of(n, (element)x, power);
+        equation(n, basis, power, table[x], work + x * columns);
+    }
     size_t rank = eliminate(n, work, rows, unknowns);
     return read_solution(work, rows, unknowns, rank, solution);
 }

@@ -10,8 +10,8 @@ enum { SHARES = 9 };
 // What goes with a width and, at width 6, with the output bits: coefficients of a polynomial, elements of the field; terms of the form, bytes of a
 // record of version 2 and of Fit's work. Such a record has its coefficients from byte HEAD on.
 enum { HEAD = 7 };
-enum { COEFFICIENTS_4 = 9, ELEMENTS_4 = 16, TERMS_4 = 2, RECORD_4 = 34, WORK_4 = 448 };
-enum { COEFFICIENTS_6 = 19, ELEMENTS_6 = 64, TERMS_6 = 4, RECORD_6 = 140, WORK_6 = 6144 };
+enum { COEFFICIENTS_4 = 9, ELEMENTS_4 = 16, TERMS_4 = 2, RECORD_4 = 34, WORK_4 = 304 };
+enum { COEFFICIENTS_6 = 19, ELEMENTS_6 = 64, TERMS_6 = 4, RECORD_6 = 140, WORK_6 = 4928 };
 enum { TERMS_6_4 = 3, RECORD_6_4 = 102, WORK_6_4 = 11008 };
 
 // What an operation answers: 0, or the number of the refusal.

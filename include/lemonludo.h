@@ -61,8 +61,8 @@ void ll_read(const uint8_t *record, size_t record_len, uint64_t answer[4]);
 void ll_check(const uint8_t *record, size_t record_len, const uint8_t *table, size_t table_len, uint64_t answer[4]);
 
 // Fit: writes the record, of version 2, that decomposes the table over the basis q1 to q(t-1). By width and output bits:
-//   4, 4   table 16 bytes, basis  9, work    448, record  34
-//   6, 6   table 64 bytes, basis 57, work  6,144, record 140
+//   4, 4   table 16 bytes, basis  9, work    304, record  34
+//   6, 6   table 64 bytes, basis 57, work  4,928, record 140
 //   6, 4   table 64 bytes, basis 38, work 11,008, record 102
 // Refuses: 1 width not 4 or 6; 9 output bits that do not pair with it; 2 any length wrong; 3 an entry too large (table, not below 2^m; then
 // basis, not below 2^n); 4 no p meets the table.

@@ -368,7 +368,7 @@ static void fit_low_bits(const struct operation *op)
 static void test_fit(void)
 {
     static const struct operation op = {"ll_fit", 4, 2, call_fit};
-    struct slice slices[] = {bytes(present_table, 16), bytes(house_basis, 9), space(448), space(34)};
+    struct slice slices[] = {bytes(present_table, 16), bytes(house_basis, 9), space(304), space(34)};
     output_bits = 4;
     expect(&op, "PRESENT's table", 4, slices, done(0, 0, 0), present_record);
     wrong_lengths(&op, 4, slices);
@@ -402,11 +402,14 @@ static void test_fit(void)
     slices[0] = bytes(identity_table, 16);
     expect(&op, "identity over a zero basis", 4, slices, done(0, 0, 0), identity_record_4);
 
-    struct slice wide[] = {bytes(identity_table, 64), bytes(zeros, 57), space(6144), space(140)};
+    struct slice wide[] = {bytes(identity_table, 64), bytes(zeros, 57), space(4928), space(140)};
     expect(&op, "lengths of six output bits", 6, wide, refused(LL_LENGTH, 0), NULL);
     output_bits = 6;
     expect(&op, "identity of width 6 over a zero basis", 6, wide, done(0, 0, 0), identity_record_6);
     wrong_lengths(&op, 6, wide);
+    wide[2] = space(6144);
+    expect(&op, "room for the powers of all inputs", 6, wide, refused(LL_LENGTH, 0), NULL);
+    wide[2] = space(4928);
     wide[0] = bytes(identity_table + 1, 64);
     expect(&op, "entry 64 at width 6", 6, wide, refused(LL_TOO_LARGE, 63), NULL);
     fit_low_bits(&op);
@@ -422,13 +425,15 @@ static void call_house_fit(uint32_t number, void *const *at, const size_t *len, 
 static void test_house_fit(void)
 {
     static const struct operation op = {"ll_house_fit", 3, 2, call_house_fit};
-    struct slice slices[] = {bytes(present_table, 16), space(448), space(34)};
+    struct slice slices[] = {bytes(present_table, 16), space(304), space(34)};
     expect(&op, "PRESENT's table", 0, slices, done(0, 0, 0), present_record);
     wrong_lengths(&op, 0, slices);
     slices[0] = bytes(zeros, 16);
     expect(&op, "zero table", 0, slices, done(0, 0, 0), zero_record);
     slices[0] = bytes(identity_table + 1, 16);
     expect(&op, "entry 16", 0, slices, refused(LL_TOO_LARGE, 15), NULL);
+    slices[1] = space(448);
+    expect(&op, "room for the powers of all inputs", 0, slices, refused(LL_LENGTH, 0), NULL);
 }
 
 // ---- S-box and its watch

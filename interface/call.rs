@@ -199,31 +199,31 @@ fn fit_low_bits(c: &mut Calls) {
     work = [FILL; 11008];
     c.refuses("entry 16", 102, 3, 16, |out| ll::fit(6, 4, &identity_table(6), &[0; 38], &mut work, out));
     c.refuses("entry 64 in the basis", 102, 3, 101, |out| ll::fit(6, 4, &table, &with(&[63; 38], 37, 64), &mut work, out));
-    c.refuses("work of six output bits", 102, 2, 0, |out| ll::fit(6, 4, &table, &[0; 38], &mut work[..6144], out));
+    c.refuses("work of six output bits", 102, 2, 0, |out| ll::fit(6, 4, &table, &[0; 38], &mut work[..4928], out));
     c.refuses("output bits 5", 102, 9, 0, |out| ll::fit(6, 5, &table, &[0; 38], &mut work, out));
     c.same("longest work after refusals", &work[..], &[FILL; 11008]);
     c.wrong_lengths([&table, &[0; 38]], 102, |[table, basis], out| ll::fit(6, 4, table, basis, &mut [FILL; 11008], out));
 }
 
 fn fit(c: &mut Calls) {
-    let mut work = [FILL; 448];
+    let mut work = [FILL; 304];
     let record = c.fills("PRESENT's table", 34, done(0, 0, 0), |out| ll::fit(4, 4, &PRESENT_TABLE, &HOUSE_BASIS, &mut work, out));
     c.same("PRESENT's record", &record[..], &PRESENT_RECORD);
-    c.same("work after done", work, [0; 448]);
+    c.same("work after done", work, [0; 304]);
 
-    let mut wide = [FILL; 6144];
+    let mut wide = [FILL; 4928];
     let record = c.fills("identity of width 6", 140, done(0, 0, 0), |out| ll::fit(6, 6, &identity_table(6), &[0; 57], &mut wide, out));
     c.same("identity's record", record, identity_record(6));
-    c.same("wide work after done", wide, [0; 6144]);
+    c.same("wide work after done", wide, [0; 4928]);
 
     fit_low_bits(c);
 
-    work = [FILL; 448];
+    work = [FILL; 304];
     let unit = with(&[0; 16], 0, 1);
     c.refuses("1, 0 .. 0 over a zero basis", 34, 4, 0, |out| ll::fit(4, 4, &unit, &[0; 9], &mut work, out));
-    c.same("work after 4", work, [0; 448]);
+    c.same("work after 4", work, [0; 304]);
 
-    work = [FILL; 448];
+    work = [FILL; 304];
     for width in [0, 5, 260, u32::MAX] {
         c.refuses("another width", 34, 1, 0, |out| ll::fit(width, 4, &PRESENT_TABLE, &HOUSE_BASIS, &mut work, out));
     }
@@ -233,29 +233,31 @@ fn fit(c: &mut Calls) {
     c.refuses("width 5, output bits 5", 34, 1, 0, |out| ll::fit(5, 5, &PRESENT_TABLE, &HOUSE_BASIS, &mut work, out));
     c.refuses("entry in the basis", 34, 3, 20, |out| ll::fit(4, 4, &PRESENT_TABLE, &with(&HOUSE_BASIS, 4, 16), &mut work, out));
     c.refuses("entry in the table", 34, 3, 3, |out| ll::fit(4, 4, &with(&PRESENT_TABLE, 3, 16), &HOUSE_BASIS, &mut work, out));
-    for length in [0, 447] {
+    for length in [0, 303] {
         c.refuses("short work", 34, 2, 0, |out| ll::fit(4, 4, &PRESENT_TABLE, &HOUSE_BASIS, &mut work[..length], out));
     }
-    c.same("work after refusals", work, [FILL; 448]);
-    c.wrong_lengths([&PRESENT_TABLE, &HOUSE_BASIS], 34, |[table, basis], out| ll::fit(4, 4, table, basis, &mut [FILL; 448], out));
+    c.same("work after refusals", work, [FILL; 304]);
+    c.refuses("long work", 34, 2, 0, |out| ll::fit(4, 4, &PRESENT_TABLE, &HOUSE_BASIS, &mut [FILL; 448], out));
+    c.wrong_lengths([&PRESENT_TABLE, &HOUSE_BASIS], 34, |[table, basis], out| ll::fit(4, 4, table, basis, &mut [FILL; 304], out));
     let answer = by_hand(|a| unsafe { raw::ll_fit(4, 4, null(), 0, null(), 0, null_mut(), 0, null_mut(), 0, a) });
     c.answer("NULL", answer, refused(2, 0));
 }
 
 fn house_fit(c: &mut Calls) {
-    let mut work = [FILL; 448];
+    let mut work = [FILL; 304];
     let record = c.fills("PRESENT's table", 34, done(0, 0, 0), |out| ll::house_fit(&PRESENT_TABLE, &mut work, out));
     c.same("PRESENT's record", &record[..], &PRESENT_RECORD);
-    c.same("work after done", work, [0; 448]);
+    c.same("work after done", work, [0; 304]);
     c.answer("Check of it", ll::check(&record, &PRESENT_TABLE), done(0, 0, 0));
     let record = c.fills("zero table", 34, done(0, 0, 0), |out| ll::house_fit(&[0; 16], &mut work, out));
     c.same("zero p", &record[16..], &[0; 18]);
 
-    work = [FILL; 448];
+    work = [FILL; 304];
     c.refuses("entry 16", 34, 3, 15, |out| ll::house_fit(&with(&PRESENT_TABLE, 15, 16), &mut work, out));
-    c.refuses("short work", 34, 2, 0, |out| ll::house_fit(&PRESENT_TABLE, &mut work[..447], out));
-    c.same("work after refusals", work, [FILL; 448]);
-    c.wrong_lengths([&PRESENT_TABLE], 34, |[table], out| ll::house_fit(table, &mut [FILL; 448], out));
+    c.refuses("short work", 34, 2, 0, |out| ll::house_fit(&PRESENT_TABLE, &mut work[..303], out));
+    c.same("work after refusals", work, [FILL; 304]);
+    c.refuses("long work", 34, 2, 0, |out| ll::house_fit(&PRESENT_TABLE, &mut [FILL; 448], out));
+    c.wrong_lengths([&PRESENT_TABLE], 34, |[table], out| ll::house_fit(table, &mut [FILL; 304], out));
     let answer = by_hand(|a| unsafe { raw::ll_house_fit(null(), 0, null_mut(), 0, null_mut(), 0, a) });
     c.answer("NULL", answer, refused(2, 0));
 }

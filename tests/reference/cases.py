@@ -533,8 +533,8 @@ def fit_wrong_lengths(prng, good):
     for n in sorted({9, 57, 38} - {len(good[3])}):
         yield change_length(prng, good, 3, n, 2 ** pair[0])
     right = WORK_LENGTH[pair]
-    # The work of the other pairs, and what a fit could do with.
-    for n in sorted({0, 1, right - 1, right + 1, *WORK_LENGTH.values(), 304, 4928} - {right}):
+    # The work of the other pairs, and with room for the powers of all inputs.
+    for n in sorted({0, 1, right - 1, right + 1, *WORK_LENGTH.values(), 448, 6144} - {right}):
         yield *good[:4], b"\x77" * n, good[5]
     for place in range(2, 6):  # 2 before 3
         bad = *pair, put(good[2], 0, 255), put(good[3], 0, 255), *good[4:]
@@ -586,7 +586,7 @@ def fit_cases():
 
 
 def house_fit_inputs(prng, table):
-    return bytes(table), bytes([1 + prng.below(255)]) * 448, prng.pattern(34)
+    return bytes(table), bytes([1 + prng.below(255)]) * WORK_LENGTH[4, 4], prng.pattern(34)
 
 
 def house_fit_cases():
@@ -621,7 +621,7 @@ def house_fit_cases():
     for n in (0, 1, 15, 17, 25, 64):
         yield change_length(prng, good, 0, n, 16)
         yield (put(resize(prng, good[0], n, 16), 0, 255), *good[1:])  # 2 before 3
-    for n in (0, 1, 304, 447, 449, 6144, 11008):
+    for n in (0, 1, 303, 305, 448, 4928, 11008):
         yield good[0], b"\x5a" * n, good[2]
         yield put(good[0], 3, 255), b"\x5a" * n, good[2]
     for n in (0, 1, 32, 33, 35, 102, 140):

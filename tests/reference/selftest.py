@@ -148,9 +148,9 @@ def test_checks_on_paper():
         trace = Trace(pair[0], bytes(sbox_random(pair, 3)))
         masked_sbox(trace, random_record(Prng(1), pair), [1, 2, 3])
         same("(j)", (len(trace.values), sbox_steps(pair, 3)), (expected, expected))
-    answer = house_fit(bytes(16), b"\x01" * 448, b"\x01" * 34)
+    answer = house_fit(bytes(16), b"\x01" * 304, b"\x01" * 34)
     expected = b"DCP\x00\x02\x04\x04" + HOUSE_BASIS + bytes(18)
-    same("(k)", answer, (0, (), (bytes(448), expected)))
+    same("(k)", answer, (0, (), (bytes(304), expected)))
     same("(l)", split(b"\x07", 3, b"\x01\x02", b"\xee" * 3), (0, (), (b"\x04\x01\x02",)))
 
 
@@ -184,9 +184,9 @@ def test_edges():
     same("no step", block_watch(*inputs, [117196, 117197], b"\xee\xee").values, (1,))
     same("no step", block_watch(*inputs, [117197], b"\xee"), (8, (0,), (b"\xee",)))
 
-    work, record = b"\x01" * 448, b"\xee" * 34
+    work, record = b"\x01" * 304, b"\xee" * 34
     answer = fit(4, 4, b"\x01" + bytes(15), bytes(9), work, record)
-    same("zero basis, 1, 0, 0 ..", answer, (4, (0,), (bytes(448), record)))
+    same("zero basis, 1, 0, 0 ..", answer, (4, (0,), (bytes(304), record)))
     answer = fit(4, 4, bytes(range(16)), bytes(9), work, record)
     same("zero basis, identity", answer.number, 0)
     same("zero basis, identity", answer.outputs[1][16:], bytes(10) + b"\x01" + bytes(7))
@@ -210,9 +210,9 @@ def test_layouts():
         place = head_length(record)
         bad = record[:place] + b"\xff" + record[place + 1 :]
         same("its place", read(bad), (3, (place,), ()))
-    same("work, equal widths", [16 * (18 + 1 + 9), 64 * (76 + 1 + 19)], [448, 6144])
+    same("work, equal widths", [16 * (18 + 1), 64 * (76 + 1)], [304, 4928])
     same("work, (6, 4)", (64 * 4, 3 * 19 * 6, 256 * (342 + 2) // 8), (256, 342, 11008))
-    same("work", WORK_LENGTH, {(4, 4): 448, (6, 6): 6144, (6, 4): 11008})
+    same("work", WORK_LENGTH, {(4, 4): 304, (6, 6): 4928, (6, 4): 11008})
 
 
 def test_heads():

@@ -103,7 +103,6 @@ sizes n m k =
       unknowns = refl;
       basis = one-less e t (f .3);
       coefficients = refl;
-      powers = refl;
       element-work = λ q. rw (eq-eqb m n q) refl;
       bit-work = λ q. rw (ne-eqb m n q) refl;
       bit-room = row-bits (t * e * n);
@@ -117,11 +116,11 @@ sizes n m k =
     }
 
 -- the numbers that the papers name: the lengths of a record in each version, and of the work of a fit
-pub sizes-4-4 : let L = layout 4 4 in (recordSize 1 L ≡ 33) × (recordSize 2 L ≡ 34) × (L .work ≡ 448)
+pub sizes-4-4 : let L = layout 4 4 in (recordSize 1 L ≡ 33) × (recordSize 2 L ≡ 34) × (L .work ≡ 304)
 unfolding layout sized termsOf
 sizes-4-4 = rw length-exponents-4 (refl, refl, refl)
 
-pub sizes-6-6 : let L = layout 6 6 in (recordSize 1 L ≡ 139) × (recordSize 2 L ≡ 140) × (L .work ≡ 6144)
+pub sizes-6-6 : let L = layout 6 6 in (recordSize 1 L ≡ 139) × (recordSize 2 L ≡ 140) × (L .work ≡ 4928)
 unfolding layout sized termsOf
 sizes-6-6 = rw length-exponents-6 (refl, refl, refl)
 
@@ -148,11 +147,8 @@ module _ {L : Layout} (z : Sizes L) where
   pub coefficients-few : L .coefficients ≤ 434
   coefficients-few = omega (arith, z .coefficients, z .basis, unknowns-few)
 
-  pub inputs-few : L .inputs * L .exponents ≤ 7936
-  inputs-few = mul-le-mul {n₂ = 256} {m₂ = 31} (omega (arith, z .byte)) (omega (arith, z .few-exponents))
-
-  pub powers-few : L .powers ≤ 55808
-  powers-few = rw (z .powers) (mul-le-mul {n₂ = 256} {m₂ = 218} (omega (arith, z .byte)) (omega (arith, unknowns-few)))
+  pub work-few : L .inputs * (L .unknowns + 1) ≤ 55808
+  work-few = mul-le-mul {n₂ = 256} {m₂ = 218} (omega (arith, z .byte)) (omega (arith, unknowns-few))
 
   pub rows-few : L .inputs * L .outputs ≤ 2048
   rows-few =

@@ -7,18 +7,21 @@ use native.Mathlib.Nat.{mod-eq-of-lt}
 use native.Mathlib.Omega.{arith}
 use lib.Dec.{leb, eqb}
 use lib.ListN.{length, getD, replicate}
+use borrow.Author.Tests.{eq-eqb}
 use Rattle.xor.specs.Sum.{Small}
 use Rattle.refusal.specs.Large.{firstLarge, testBelow}
-use Rattle.refusal.specs.Outcome.{Outcome, done, refused, test, andThen}
+use Rattle.refusal.specs.Outcome.{Outcome, done, refused, test, andThen, written}
 use Rattle.refusal.proofs.Large.{below-passes, none-large}
 use Rattle.refusal.proofs.Outcome.{then-passed}
 use Rattle.field.proofs.Polynomial.{length-exponents-4, length-exponents-6}
 use Rattle.decomposition.specs.Check.{checkOutcome, checkAt, firstDifference, formIn, recordForm}
-use Rattle.decomposition.specs.Fit.{FitCall, FitEnd, fitLengths, allTests, FitReady, fitOutcome, fitWork, fitRecord, fitEnd, houseBasis, houseCall, houseEnd, houseOutcome, Written, Found, AfterTests, IsFit}
-use Rattle.decomposition.specs.Form.{Computes, Decomposition, ElementDecomposition, NoDecomposition, form}
-use Rattle.decomposition.specs.Layout.{layout, sized, termsOf, Known, Pair}
+use Rattle.decomposition.specs.Fit.{FitCall, FitEnd, fitLengths, fitTests, allTests, FitReady, fitOutcome, fitWork, fitRecord, fitEnd, houseBasis, houseCall, houseEnd, houseOutcome, Written, Found, AfterTests, IsFit}
+use Rattle.decomposition.specs.Form.{Computes, Decomposition, ElementDecomposition, NoDecomposition, form, valueOf}
+use Rattle.decomposition.specs.Layout.{known, paired, layout, sized, termsOf, Known, Pair}
 use Rattle.decomposition.specs.Reach.{desTable, sumOver, zeroSumInputs}
 use Rattle.decomposition.specs.Record.{Accepted, SameRecord, basisOf, coefficientsOf, layoutOf, oldRecord, outputsOf, readOutcome, recordOf, solutionOf, widthOf}
+use Rattle.decomposition.specs.Solution.{candidate, candidates, meets, solution, solutionNumber, solvable}
+use Rattle.decomposition.specs.declared.layouts.Layout.{Layout}
 use Rattle.decomposition.proofs.Accepted.{old-record, written-check, written-read}
 use Rattle.decomposition.proofs.Decomposition.{decomposition-exists, decomposition-unique, decomposition-elements, elements-are, zero-decomposition}
 use Rattle.decomposition.proofs.House.{house-end, house-number, house-reaches, house-small}
@@ -230,6 +233,47 @@ same-check n r r′ table e =
         let first = firstDifference (λ x. formIn L cs x % L .entries) table in
         test (eqb (length table) (L .inputs)) 2 0 (testBelow (L .entries) 0 table (test (leb (length table) first) 6 first (done [])))
 
+-- ---- the work
+
+-- How many bytes of work are asked for plays a part in the test of that length alone. So outcome and record are what they were when the work had room for
+-- the powers of all inputs too, 448 bytes at (4, 4) and 6,144 at (6, 6): for every w, table and basis, a fit that asked for w bytes and was lent w
+module _ (n m w : ℕ) (table basis work work′ out : List ℕ) (before : length work ≡ w) (now-asked : length work′ ≡ layout n m .work) where
+  -- the layout with a work of w bytes
+  abbrev layoutBefore : Layout
+  layoutBefore =
+      let L = layout n m in
+      record {
+        width = L .width;
+        outputs = L .outputs;
+        inputs = L .inputs;
+        entries = L .entries;
+        exponents = L .exponents;
+        terms = L .terms;
+        unknowns = L .unknowns;
+        basis = L .basis;
+        coefficients = L .coefficients;
+        stride = L .stride;
+        work = w;
+      }
+
+  abbrev outcomeBefore : Outcome
+  outcomeBefore =
+      andThen (test (known n) 1 0 (test (paired n m) 9 0 (fitTests layoutBefore table basis (length work) (length out))))
+      (test (solvable layoutBefore table basis) 4 0 (done []))
+
+  abbrev callNow : FitCall
+  callNow = record { table = table; basis = basis; work = work′; out = out }
+
+  -- came to the same outcome
+  pub outcome-as-before : outcomeBefore ≡ fitOutcome n m callNow
+  unfolding fitOutcome fitLengths solvable solutionNumber candidates candidate meets form valueOf
+  outcome-as-before = rw (before, now-asked, eq-eqb w w refl, eq-eqb (layout n m .work) (layout n m .work) refl) refl
+
+  -- and left the same record
+  pub record-as-before : written outcomeBefore (recordOf layoutBefore basis (solution layoutBefore table basis)) out ≡ fitRecord n m callNow
+  unfolding fitRecord solution solutionNumber candidates candidate meets form valueOf
+  record-as-before = ap (λ (o : Outcome). written o (recordOf (layout n m) basis (solution (layout n m) table basis)) out) outcome-as-before
+
 -- ---- the zero table
 
 -- the zero table is decomposed by zero, over any basis
@@ -253,7 +297,7 @@ zero-table n m c q t =
     )
 
 -- paper check (k): with the house basis
-pub zero-house : (work out : List ℕ) → length work ≡ 448 → length out ≡ 34
+pub zero-house : (work out : List ℕ) → length work ≡ 304 → length out ≡ 34
     → let e = houseEnd (replicate 16 0) work out in (e .outcome ≡ done []) × (e .out ≡ recordOf (layout 4 4) houseBasis (replicate 18 0))
 unfolding layout sized termsOf houseBasis firstLarge fitLengths
 zero-house work out lw lo =

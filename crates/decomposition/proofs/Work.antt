@@ -1,47 +1,21 @@
--- How the powers and the equations come to lie in the work.
+-- How the equations come to lie in the work.
 use mathlib.Core.List.{List}
 use mathlib.Core.Path.{_≡_, ap, _∙_}
 use Prim.Native.Nat.{ℕ, _+_, _-_, _*_, _≤_, _<_}
 use native.Mathlib.Decide.{ℕ-discrete, decLt}
-use native.Mathlib.Nat.{le-refl, suc-mul, add-assoc}
+use native.Mathlib.Nat.{suc-mul}
 use native.Mathlib.Numerals.{add-one}
 use native.Mathlib.Omega.{arith}
 use lib.ListN.{getD}
 use Rattle.xor.specs.Sum.{Small as SmallList}
-use Rattle.linear.specs.Buffer.{cell, from, Overwritten, Written}
-use Rattle.linear.specs.Row.{Agree}
+use Rattle.linear.specs.Buffer.{cell, Overwritten, Written}
 use Rattle.linear.specs.Scalars.{scalars}
 use Rattle.linear.specs.System.{Elements}
-use Rattle.linear.proofs.Buffer.{overwritten-other, overwritten-row, row-room}
-use Rattle.decomposition.specs.Equations.{Powers, Rows, system}
-use Rattle.decomposition.specs.Form.{monomial}
+use Rattle.linear.proofs.Buffer.{overwritten-other, overwritten-row}
+use Rattle.decomposition.specs.Equations.{Rows, system}
 use Rattle.decomposition.specs.Layout.{Sizes}
 use Rattle.decomposition.specs.declared.layouts.Layout.{Layout}
 use Rattle.decomposition.proofs.Columns.{equation-small}
-
--- ---- the powers
-
-pub powers-none : (n e b : ℕ) (l : List ℕ) → Powers n e 0 b l
-powers-none n e b l = record { at = λ x j h. absurd (omega arith) }
-
--- one input more
-pub powers-more : {n e m b : ℕ} {l l' : List ℕ} → Powers n e m b l → Overwritten l l' (b + m * e) e (monomial n m) → Powers n e (m + 1) b l'
-powers-more {n} {e} {m} {b} {l} {l'} p u = record {
-  at = λ x j h g. elim (ℕ-discrete x m) [
-    | yes q ↦ rw (q, ← add-assoc b (m * e) j) (u .new j g)
-    | no ne ↦
-        let xm : x < m = omega arith in
-        u .low (b + (x * e + j)) (omega (arith, row-room e xm (le-refl (m * e)))) ∙ p .at x j xm g
-  ];
-}
-
--- what is written below b leaves the powers as they were
-pub powers-kept : {n e m b a k : ℕ} {l l' : List ℕ} {v : ℕ → ℕ} → Powers n e m b l → Overwritten l l' a k v → a + k ≤ b → Powers n e m b l'
-powers-kept {e = e} {b = b} p u h = record { at = λ x j g f. u .high (b + (x * e + j)) (omega arith) ∙ p .at x j g f }
-
--- the powers of x, as a row
-pub powers-row : {n e m b : ℕ} {l : List ℕ} → Powers n e m b l → (x : ℕ) → x < m → Agree e (from l (b + x * e)) (monomial n x)
-powers-row {n} {e} {m} {b} {l} p x h = record { at = λ j g. ap (λ (k : ℕ). getD l k 0) (add-assoc b (x * e) j) ∙ p .at x j h g }
 
 -- ---- the equations
 

@@ -10,7 +10,7 @@ use Rattle.linear.specs.Bits.{bitwise}
 use Rattle.linear.specs.Packed.{bitCell}
 use Rattle.linear.specs.Buffer.{cell}
 use Rattle.linear.specs.Row.{Agree}
-use Rattle.decomposition.specs.Form.{monomial, unknownColumn}
+use Rattle.decomposition.specs.Form.{unknownColumn}
 use Rattle.decomposition.specs.declared.layouts.Layout.{Layout}
 
 -- the equation at input x: the columns, and v as the right side
@@ -24,10 +24,6 @@ system L table basis x = equation L basis x (getD table x 0)
 -- the equations over bits: row x·m + b is the equation at input x, at its bit b
 abbrev pub bitSystem : Layout → List ℕ → List ℕ → ℕ → ℕ → ℕ
 bitSystem L table basis = bitwise (L .width) (L .outputs) (system L table basis)
-
--- the powers of the inputs below m stand from b on, e for each input
-pub record Powers (n e m b : ℕ) (l : List ℕ) : Type 0 where
-  pub at : (x j : ℕ) → x < m → j < e → getD l (b + (x * e + j)) 0 ≡ monomial n x j
 
 -- the rows below x hold their equations
 pub record Rows (L : Layout) (table basis : List ℕ) (x : ℕ) (l : List ℕ) : Type 0 where
@@ -43,18 +39,16 @@ pub record BlockWritten (w : ℕ) (M₀ M : ℕ → ℕ → ℕ) (row m c k : �
 pub record BitRows (L : Layout) (table basis : List ℕ) (r : ℕ) (l : List ℕ) : Type 0 where
   pub row : (i : ℕ) → i < r → Agree (L .unknowns * L .width + 1) (bitCell (L .stride) l i) (bitSystem L table basis i)
 
--- what an equation needs: room at a, below the powers of its input at p
-pub record EquationReady (L : Layout) (basis l : List ℕ) (a p : ℕ) : Type 0 where
+-- what an equation needs: room at a
+pub record EquationReady (L : Layout) (basis l : List ℕ) (a : ℕ) : Type 0 where
   pub whole : length basis ≡ L .basis
-  pub below : a + (L .unknowns + 1) ≤ p
-  pub room : p + L .exponents ≤ length l
+  pub room : a + (L .unknowns + 1) ≤ length l
 
--- what the equations need: the powers stand after them
+-- what the equations need
 pub record EquationsReady (L : Layout) (table basis l : List ℕ) : Type 0 where
   pub inputs : length table ≡ L .inputs
   pub whole : length basis ≡ L .basis
-  pub room : length l ≡ L .powers + L .inputs * L .exponents
-  pub powers : Powers (L .width) (L .exponents) (L .inputs) (L .powers) l
+  pub room : length l ≡ L .inputs * (L .unknowns + 1)
 
 -- what the equations over bits need
 pub record BitsReady (L : Layout) (table basis l : List ℕ) : Type 0 where

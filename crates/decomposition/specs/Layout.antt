@@ -47,11 +47,10 @@ sized n m e t = record {
   basis = (t - 1) * e;
   -- the coefficients of a record: the basis, then p1 to pt
   coefficients = (t - 1) * e + t * e;
-  -- the work at equal widths: an equation for each input, then the powers of each input
-  powers = 2 ^ n * (t * e + 1);
-  -- the work at other widths: an equation for each output bit of each input, with n bits for each unknown and one for the right side, in whole bytes
+  -- the work: at equal widths an equation for each input, with a byte for each unknown and one for the right side; at other widths one for each output
+  -- bit of each input, with n bits for each unknown and one for the right side, in whole bytes
   stride = t * e * n / 8 + 1;
-  work = cond (eqb m n) (2 ^ n * (t * e + 1) + 2 ^ n * e) (2 ^ n * m * (t * e * n / 8 + 1));
+  work = cond (eqb m n) (2 ^ n * (t * e + 1)) (2 ^ n * m * (t * e * n / 8 + 1));
 }
 
 -- the layout for width n and m output bits
@@ -62,7 +61,7 @@ layout n m = sized n m (length (exponents n)) (termsOf n m)
 abbrev pub head : ℕ → ℕ
 head version = cond (eqb version 2) 7 6
 
--- the bytes of a record: 33 and 139 in version 1; 34, 140 and 102 in version 2. The work has 448, 6,144 and 11,008 (proofs/Sizes.antt, `sizes-4-4` ..)
+-- the bytes of a record: 33 and 139 in version 1; 34, 140 and 102 in version 2. The work has 304, 4,928 and 11,008 (proofs/Sizes.antt, `sizes-4-4` ..)
 abbrev pub recordSize : ℕ → Layout → ℕ
 recordSize version L = head version + L .coefficients
 
@@ -77,8 +76,7 @@ pub record Sizes (L : Layout) : Type 0 where
   pub unknowns : L .unknowns ≡ L .terms * L .exponents
   pub basis : L .basis + L .exponents ≡ L .unknowns
   pub coefficients : L .coefficients ≡ L .basis + L .unknowns
-  pub powers : L .powers ≡ L .inputs * (L .unknowns + 1)
-  pub element-work : L .outputs ≡ L .width → L .work ≡ L .powers + L .inputs * L .exponents
+  pub element-work : L .outputs ≡ L .width → L .work ≡ L .inputs * (L .unknowns + 1)
   pub bit-work : (L .outputs ≡ L .width → ⊥) → L .work ≡ L .inputs * L .outputs * L .stride
   pub bit-room : L .unknowns * L .width < L .stride * 8
   pub few-bytes : L .stride ≤ 64

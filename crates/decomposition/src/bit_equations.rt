@@ -85,7 +85,7 @@ fn put_polynomials(layout: Layout, basis: &[u8], work: &mut [u8], row: usize, po
     let terms = layout.terms;
     let mut i = 0;
     while i < terms {
-        let f = factor_at(layout, basis, i, powers, 0);
+        let f = factor_at(layout, basis, i, powers);
         put_polynomial(layout, work, row, i, f, powers);
         i += 1;
     }

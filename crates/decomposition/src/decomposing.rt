@@ -5,7 +5,6 @@ ghost use Rattle.decomposition.specs.Equations.{SolveReady};
 ghost use Rattle.decomposition.specs.Fit.{Decomposed};
 use crate::bit_equations::bit_equations;
 use crate::equations::equations;
-use crate::equations::powers;
 use crate::layouts::Layout;
 use crate::layouts::ROW;
 
@@ -15,7 +14,6 @@ fn over_elements(layout: Layout, table: &[u8], basis: &[u8], work: &mut [u8], p:
     requires { ⌜ SolveReady layout (now table) (now basis) (now work) (now p) × (layout .outputs ≡ layout .width) ⌝ }
     ensures { λ r. ⌜ Decomposed layout (now (table .entry)) (now (basis .entry)) (now (p .entry)) (now (p .exit)) r ⌝ }
 {
-    powers(layout, work);
     equations(layout, table, basis, work);
     linear::solve(layout.width, work, layout.unknowns, layout.inputs, p)
 }

@@ -31,8 +31,6 @@ pub struct Layout {
     pub basis: usize,
     // the coefficients of a record: the basis, then p1 to pt
     pub coefficients: usize,
-    // where the powers of the inputs begin in the work, at equal widths
-    pub powers: usize,
     // the bytes of an equation over bits, at other widths
     pub stride: usize,
     // the bytes of the work
@@ -69,9 +67,8 @@ pub fn layout_of(width: u32, outputs: u32) -> Layout
             unknowns: 18,
             basis: 9,
             coefficients: 27,
-            powers: 304,
             stride: 10,
-            work: 448,
+            work: 304,
         };
     }
     if outputs == 6 {
@@ -85,9 +82,8 @@ pub fn layout_of(width: u32, outputs: u32) -> Layout
             unknowns: 76,
             basis: 57,
             coefficients: 133,
-            powers: 4928,
             stride: 58,
-            work: 6144,
+            work: 4928,
         };
     }
     Layout {
@@ -100,7 +96,6 @@ pub fn layout_of(width: u32, outputs: u32) -> Layout
         unknowns: 57,
         basis: 38,
         coefficients: 95,
-        powers: 3712,
         stride: ROW,
         work: 11008,
     }

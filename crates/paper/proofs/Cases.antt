@@ -39,7 +39,7 @@ rows = refl
 
 -- House fit of the zero table: what is asked of a fit settles what is written
 zero-fit : zeroFit .given ≡ zeroFit .said
-zero-fit = zero-house (replicate 448 0) (replicate 34 255) refl refl .1
+zero-fit = zero-house (replicate 304 0) (replicate 34 255) refl refl .1
 
 split-value : splitValue .given ≡ splitValue .said
 unfolding products join tabulate column maskedByte splitShares

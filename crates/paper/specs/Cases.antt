@@ -79,7 +79,7 @@ computed =
 
 -- (k): the record that House fit of the zero table writes, with zero p
 abbrev pub zeroFit : Case
-zeroFit = gives (houseEnd zeroTable (replicate 448 0) (replicate 34 255) .out) (recordOf (layout 4 4) houseBasis (replicate 18 0))
+zeroFit = gives (houseEnd zeroTable (replicate 304 0) (replicate 34 255) .out) (recordOf (layout 4 4) houseBasis (replicate 18 0))
 
 -- (l): a value split by masks
 abbrev pub splitValue : Case

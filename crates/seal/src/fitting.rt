@@ -36,7 +36,7 @@ fn show_fit(table: &[u8], work: &mut [u8], record: &mut [u8; 34]) {
 // Shows what every sealing begins with: a table becomes a record, once.
 pub fn part(record: &mut [u8; 34]) {
     let table = example::TABLE;
-    let mut work = [0u8; 448];
+    let mut work = [0u8; 304];
     text::print(b"\n1. A record of the S-box\n\n");
     text::print(b"House fit writes PRESENT's S-box as p1(x) q1(x) + p2(x), which can be\n");
     text::print(b"computed in shares. This is done once. The record is no secret; it has 34\n");

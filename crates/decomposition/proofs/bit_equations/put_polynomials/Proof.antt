@@ -34,7 +34,7 @@ loop-holds c =
     (omega arith, refl, (λ x a. rw (zero-mul (L .exponents), zero-mul (L .width)) (block-none _ _ _ _ _ _)))
 
 factor-at-requires : tie.Need-factor-at-requires Inv-loop μ-loop
-factor-at-requires c κs = let s = c .before .before .before .before .before in (s .pre .0, (s .pre .1 .0, c .loop-test .taken, omega (arith, s .pre .1 .3)))
+factor-at-requires c κs = let s = c .before .before .before .before .before in (s .pre .0, (s .pre .1 .0, c .loop-test .taken, s .pre .1 .3))
 
 put-polynomial-requires : tie.Need-put-polynomial-requires Inv-loop μ-loop
 put-polynomial-requires c κs =

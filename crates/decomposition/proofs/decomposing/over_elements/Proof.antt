@@ -10,34 +10,23 @@ use Rattle.decomposition.proofs.Work.{rows-elements}
 use Rattle.decomposition.proofs.decomposing.over_elements.Statement.{statement}
 use Rattle.decomposition.proofs.decomposing.over_elements.Tie as tie
 
-powers-requires : tie.Need-powers-requires
-powers-requires c κs = let s = c .before .before .before .before .before in (s .pre .0, s .pre .1 .0 .room ∙ s .pre .0 .element-work (s .pre .1 .1))
-
 equations-requires : tie.Need-equations-requires
 equations-requires c κs =
-    let s = c .before .before .before .before .before .before .before .before .before in
+    let s = c .before .before .before .before .before in
     let z = s .pre .1 .0 in
-    let w = c .before .before .before .powers in (
-      s .pre .0,
-      record {
-        inputs = z .inputs;
-        whole = z .whole;
-        room = w .kept .1 .0 ∙ z .room ∙ s .pre .0 .element-work (s .pre .1 .1);
-        powers = w .ensures;
-      },
-    )
+    (s .pre .0, record { inputs = z .inputs; whole = z .whole; room = z .room ∙ s .pre .0 .element-work (s .pre .1 .1) })
 
 solve-requires : tie.Need-solve-requires
 solve-requires c κs =
     let a = c .before .before .before .before in
-    let s = c .before .before .before .before .before .before .before .before .before .before .before .before .before .before in
+    let s = c .before .before .before .before .before .before .before .before .before .before in
     let z = s .pre .1 .0 in
     let y = s .pre .0 in
-    let l = a .equations .kept .1 .1 .1 .0 ∙ a .before .before .before .before .powers .kept .1 .0 ∙ z .room ∙ y .element-work (s .pre .1 .1) in (
+    let l = a .equations .kept .1 .1 .1 .0 ∙ z .room ∙ y .element-work (s .pre .1 .1) in (
       y .width,
       (
         record {
-          room = omega (arith, l, y .powers);
+          room = omega (arith, l);
           elements = rows-elements y (λ k. subst (λ (j : ℕ). getD (s .args .table .now) k 0 < 2 ^ j) (s .pre .1 .1) (z .entries k)) (z .elements)
               (a .equations .ensures);
         },
@@ -56,7 +45,7 @@ returns : tie.Need-returns
 returns c =
     let v = c .before .before .before .before in
     let a = v .before .before .before .before .before in
-    let s = c .before .before .before .before .before .before .before .before .before .before .before .before .before .before .before .before .before .before .before in
+    let s = c .before .before .before .before .before .before .before .before .before .before .before .before .before .before .before in
     let z = s .pre .1 .0 in
     let table = s .args .table .now in
     let basis = s .args .basis .now in
@@ -70,4 +59,4 @@ returns c =
 pub over-elements-spec : {M : Type 1} → statement M
 over-elements-spec =
     tie.close
-    (tie.spec powers-requires equations-requires solve-requires same-length same-length-2 returns)
+    (tie.spec equations-requires solve-requires same-length same-length-2 returns)

@@ -25,7 +25,7 @@ evaluate-requires : tie.Need-evaluate-requires
 evaluate-requires c κs =
     let s = c .before .before .before .before in
     let l : suc (s .args .i) < s .args .layout .terms = omega (arith, c .if1 .taken) in
-    (s .pre .0 .width, (omega (arith, basis-room (s .pre .0) l, s .pre .1 .0), s .pre .1 .2))
+    (s .pre .0 .width, (omega (arith, basis-room (s .pre .0) l, s .pre .1 .0), omega (arith, s .pre .1 .2)))
 
 returns : tie.Need-returns
 unfolding factor

@@ -6,7 +6,6 @@ use native.Mathlib.Decide.{ℕ-discrete, decLt}
 use native.Mathlib.Nat.{le-refl, mul-assoc, add-zero, zero-add, div-lt-iff-lt-mul, mul-le-mul-right}
 use native.Mathlib.Numerals.{add-one}
 use native.Mathlib.Omega.{arith}
-use lib.ListN.{getD}
 use Rattle.field.specs.Mul.{double, mul}
 use Rattle.field.specs.Power.{Field}
 use Rattle.field.proofs.Inverses.{field-of}

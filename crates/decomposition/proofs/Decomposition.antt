@@ -19,7 +19,7 @@ use Rattle.linear.specs.Bits.{bit, bits, bitOf, bitwise}
 use Rattle.linear.specs.Packed.{bitsOf}
 use Rattle.linear.specs.Row.{Agree, RowElements}
 use Rattle.linear.specs.Scalars.{scalars}
-use Rattle.linear.specs.System.{Canonical, Combination, Elements, Free, Inconsistent}
+use Rattle.linear.specs.System.{Canonical, Combination, Elements, Inconsistent}
 use Rattle.linear.proofs.Bits.{bit-low, bit-zero, bits-equal}
 use Rattle.linear.proofs.Bitwise.{bit-of-place, bits-solve, free-bits, place-within, bitwise-or-inconsistent, bitwise-unique, canonical-bits, inconsistent-bits, solves-bits}
 use Rattle.linear.proofs.Packed.{zero-bits, zeros-at}

@@ -4,7 +4,7 @@ use mathlib.Core.Bool.{Bool, true, false, cond}
 use mathlib.Core.List.{List, [], _∷_, flatten}
 use mathlib.Core.Logic.{_⊎_, inl, inr}
 use mathlib.Core.Path.{_≡_, refl, sym, ap, ap₂, subst, _∙_}
-use Prim.Native.Nat.{ℕ, _+_, _*_, _/_, _%_, _^_, _≤_, _<_}
+use Prim.Native.Nat.{ℕ, _+_, _*_, _/_, _%_, _^_, _<_}
 use native.Mathlib.Decide.{decLt}
 use native.Mathlib.Nat.{mod-eq-of-lt}
 use native.Mathlib.Omega.{arith}
@@ -19,7 +19,6 @@ use Rattle.refusal.proofs.Large.{all-small}
 use Rattle.refusal.proofs.Outcome.{done-values, passed}
 use Rattle.field.specs.Polynomial.{classes, exponents, combination, value}
 use Rattle.field.proofs.Inverses.{products}
-use Rattle.field.proofs.Polynomial.{length-exponents-4}
 use Rattle.field.proofs.Tests.{all-at, same-below}
 use Rattle.linear.specs.Row.{RowElements, dot}
 use Rattle.linear.specs.Scalars.{scalars}

@@ -16,7 +16,7 @@ use Rattle.refusal.proofs.Outcome.{passed, done-values}
 use Rattle.decomposition.specs.Check.{checkAt, firstDifference, recordForm, recordOutput}
 use Rattle.decomposition.specs.Form.{Computes}
 use Rattle.decomposition.specs.Layout.{known, paired, head, layout, recordSize}
-use Rattle.decomposition.specs.Record.{Accepted, marked, versionOf, widthOf, outputsOf, coefficientsOf, layoutOf, readOutcome, basisOf, solutionOf}
+use Rattle.decomposition.specs.Record.{Accepted, marked, versionOf, widthOf, outputsOf, coefficientsOf, readOutcome, basisOf, solutionOf}
 use Rattle.decomposition.proofs.Columns.{form-small}
 use Rattle.decomposition.proofs.Differences.{difference-none}
 use Rattle.decomposition.proofs.Sizes.{layout-width, sizes}

@@ -4,7 +4,7 @@ use mathlib.Core.Path.{_≡_, refl, sym, ap, ap₂, _∙_}
 use mathlib.Core.Logic.{_⊎_, inl, inr}
 use Prim.Native.Nat.{ℕ, zero, suc, _+_, _-_, _*_, _/_, _%_, _^_, _≤_, _<_}
 use native.Mathlib.Decide.{ℕ-discrete, decLt}
-use native.Mathlib.Nat.{mod-lt, mod-eq-of-lt, zero-mul, one-mul, mul-zero, mul-assoc, mul-add-div-right, mul-add-mod-self-right, div-add-mod', lt-of-lt-of-le}
+use native.Mathlib.Nat.{mod-lt, mod-eq-of-lt, zero-mul, one-mul, mul-assoc, mul-add-div-right, mul-add-mod-self-right, div-add-mod', lt-of-lt-of-le}
 use native.Mathlib.Omega.{arith}
 use lib.ListN.{length, length-set, getD, set, replicate}
 use lib.Pow.{pow-pos, pow-mono, shl-lt}

@@ -1,7 +1,6 @@
 -- `decomposition::put_column` meets its contract. The invariant: the first b rows have their bit.
 use mathlib.Core.Path.{_≡_, refl, _∙_}
 use Prim.Native.Nat.{_*_, _+_, _-_, _<_, _≤_}
-use native.Mathlib.Nat.{le-refl}
 use native.Mathlib.Omega.{arith}
 use lib.ListN.{length}
 use Rattle.linear.specs.Bits.{bit}

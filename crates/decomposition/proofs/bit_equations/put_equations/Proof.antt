@@ -1,12 +1,12 @@
 -- `decomposition::put_equations` meets its contract: the columns, and then the right sides (`input-block`).
-use Prim.Native.Nat.{_*_, _+_, _<_, _≤_}
+use Prim.Native.Nat.{_*_, _≤_}
 use native.Mathlib.Nat.{le-refl}
 use native.Mathlib.Omega.{arith}
 use lib.ListN.{length}
 use borrow.Author.Needs.{needs}
 use Rattle.linear.proofs.Buffer.{row-room}
 use Rattle.decomposition.proofs.Blocks.{input-block, rows-room}
-use Rattle.decomposition.proofs.Sizes.{rows-few, unknowns-few, width-few}
+use Rattle.decomposition.proofs.Sizes.{rows-few, width-few}
 use Rattle.decomposition.proofs.bit_equations.put_equations.Statement.{statement}
 use Rattle.decomposition.proofs.bit_equations.put_equations.Tie as tie
 

@@ -1,5 +1,5 @@
 -- `decomposition::put_polynomial` meets its contract. The invariant: the columns of j unknowns are written.
-use mathlib.Core.Path.{_≡_, refl, sym, ap, _∙_}
+use mathlib.Core.Path.{_≡_, refl, sym, _∙_}
 use Prim.Native.Nat.{ℕ, _*_, _+_, _-_, _<_, _≤_}
 use native.Mathlib.Nat.{le-refl, zero-mul, add-mul}
 use native.Mathlib.Omega.{arith}

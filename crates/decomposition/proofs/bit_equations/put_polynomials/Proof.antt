@@ -1,10 +1,9 @@
 -- `decomposition::put_polynomials` meets its contract. The invariant: the columns of i polynomials are written.
 use mathlib.Core.Path.{_≡_, refl, sym, ap, ap₂, _∙_}
-use Prim.Native.Nat.{ℕ, _*_, _+_, _-_, _<_, _≤_}
+use Prim.Native.Nat.{ℕ, _*_, _+_, _-_, _≤_}
 use native.Mathlib.Nat.{zero-add, zero-mul, add-mul}
 use native.Mathlib.Omega.{arith}
 use lib.ListN.{getD, length}
-use borrow.Author.Needs.{needs}
 use Rattle.field.specs.Mul.{mul}
 use Rattle.linear.specs.Bits.{rowOf}
 use Rattle.linear.specs.Packed.{bitCell}

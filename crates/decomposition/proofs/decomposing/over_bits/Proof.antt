@@ -1,5 +1,5 @@
 -- `decomposition::over_bits` meets its contract. The work holds the equations, so what `solve_bits` says of the work it says of them.
-use mathlib.Core.Path.{_≡_, _∙_, ap, subst, sym}
+use mathlib.Core.Path.{_∙_, ap, subst, sym}
 use Prim.Native.Nat.{ℕ, _*_, _<_, _≤_}
 use native.Mathlib.Omega.{arith}
 use lib.ListN.{length}

@@ -1,5 +1,5 @@
 -- `decomposition::over_elements` meets its contract. The work holds the equations, so what `solve` says of the work it says of them.
-use mathlib.Core.Path.{_≡_, _∙_, subst}
+use mathlib.Core.Path.{_∙_, subst}
 use Prim.Native.Nat.{ℕ, _^_, _<_}
 use native.Mathlib.Omega.{arith}
 use lib.ListN.{getD}

@@ -4,35 +4,31 @@ use borrow.Author.Needs.{needs}
 use Rattle.decomposition.proofs.equations.put_equation.Statement.{statement}
 use Rattle.decomposition.proofs.equations.put_equation.Tie as tie
 
-slice-aggregate-power-row : tie.Need-slice-aggregate-power-row
-slice-aggregate-power-row c = search needs
+-- where the function began, as seen after the powers are made
+abbrev start : tie.After-power-row → tie.Start
+start c = c .before .before .before .before
 
 power-row-requires : tie.Need-power-row-requires
 power-row-requires c κs = search needs
 
-slice-aggregate-equation-at : tie.Need-slice-aggregate-equation-at
-slice-aggregate-equation-at c = search needs
-
 equation-at-requires : tie.Need-equation-at-requires
 equation-at-requires c κs =
-    let s = c .before .before .before .before .before .before .before in
-    (s .pre .0, (s .pre .1 .0, omega (arith, c .before .before .before .power-row .kept .1 .1 .0, s .pre .0 .few-exponents)))
-
-same-length : tie.Need-same-length
-same-length c = search needs
+    let p = c .before .before .before in
+    let s = start p in
+    (s .pre .0, (s .pre .1 .0, omega (arith, p .power-row .kept .1 .1 .0, s .pre .0 .few-exponents)))
 
 returns : tie.Need-returns
 returns c =
-    let w = c .before .before .before .before .before .before .power-row in
-    c .before .before .equation-at .ensures (c .before .before .before .before .before .before .before .before .before .before .args .x) (record { at = w .ensures .new })
+    let p = c .before .before .before .before .before .before in
+    c .before .before .equation-at .ensures (start p .args .x) (record { at = p .power-row .ensures .new })
 
 pub put-equation-spec : {M : Type 1} → statement M
 put-equation-spec =
     tie.close
     (tie.spec
-    slice-aggregate-power-row
+    (λ c. search needs)
     power-row-requires
-    slice-aggregate-equation-at
+    (λ c. search needs)
     equation-at-requires
-    same-length
+    (λ c. search needs)
     returns)

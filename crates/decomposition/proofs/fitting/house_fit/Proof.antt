@@ -1,7 +1,6 @@
 -- `decomposition::house_fit` meets its contract: a fit over the constant, which is the house basis. What `find` answers is not asked: it is Done.
 use mathlib.Core.List.{[]}
 use mathlib.Core.Path.{_≡_, refl, sym, ap, _∙_}
-use lib.ListN.{length}
 use borrow.Author.Needs.{needs}
 use Rattle.refusal.specs.Outcome.{done}
 use Rattle.refusal.specs.Large.{firstLarge}
@@ -34,20 +33,8 @@ passed c = sym (outcome (c .before .before)) ∙ ap fitReport (c .enum-told .giv
 layout-of-requires : tie.Need-layout-of-requires
 layout-of-requires c κs = same-pair 4 refl
 
-slice-aggregate-fit-tests : tie.Need-slice-aggregate-fit-tests
-slice-aggregate-fit-tests c = search needs
-
 fit-tests-requires : tie.Need-fit-tests-requires
 fit-tests-requires c κs = rw (c .before .layout-of .ensures) (sizes 4 4 (same-pair 4 refl))
-
-enum-known-tested : tie.Need-enum-known-tested
-enum-known-tested c = search needs
-
-enum-told : tie.Need-enum-told
-enum-told c = search needs
-
-slice-aggregate-find : tie.Need-slice-aggregate-find
-slice-aggregate-find c = search needs
 
 find-requires : tie.Need-find-requires
 find-requires c κs =
@@ -79,12 +66,12 @@ house-fit-spec =
     tie.close
     (tie.spec
     layout-of-requires
-    slice-aggregate-fit-tests
+    (λ c. search needs)
     fit-tests-requires
-    enum-known-tested
+    (λ c. search needs)
     (λ c κs. search needs)
-    enum-told
-    slice-aggregate-find
+    (λ c. search needs)
+    (λ c. search needs)
     find-requires
     returns
     (λ c. search needs)

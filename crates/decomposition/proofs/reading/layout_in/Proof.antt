@@ -1,5 +1,5 @@
 -- `decomposition::layout_in` meets its contract.
-use mathlib.Core.Path.{_≡_, ap, _∙_}
+use mathlib.Core.Path.{ap, _∙_}
 use native.Mathlib.Omega.{arith}
 use borrow.Author.Needs.{needs}
 use Rattle.decomposition.specs.Layout.{layout}

@@ -1,12 +1,12 @@
 -- `decomposition::outputs_of` meets its contract.
-use mathlib.Core.Path.{_≡_, refl, subst}
+use mathlib.Core.Path.{refl, subst}
 use Prim.Native.Nat.{ℕ, _≤_}
 use native.Mathlib.Omega.{arith}
-use lib.ListN.{getD, length}
+use lib.ListN.{length}
 use borrow.Author.Needs.{needs}
 use borrow.Author.Tests.{eq-eqb, ne-eqb}
 use Rattle.decomposition.specs.Layout.{head}
-use Rattle.decomposition.specs.Record.{outputsOf, versionOf}
+use Rattle.decomposition.specs.Record.{outputsOf}
 use Rattle.decomposition.proofs.reading.outputs_of.Statement.{statement}
 use Rattle.decomposition.proofs.reading.outputs_of.Tie as tie
 

@@ -1,7 +1,7 @@
 -- `decomposition::read_at` meets its contract. What is searched is the coefficients.
-use mathlib.Core.List.{List, [], _∷_}
+use mathlib.Core.List.{[], _∷_}
 use mathlib.Core.Path.{_∙_, ap, ap₂, sym, _≡_}
-use Prim.Native.Nat.{_+_, _-_, _≤_, ℕ}
+use Prim.Native.Nat.{_+_, _-_, ℕ}
 use native.Mathlib.Omega.{arith}
 use lib.ListN.{length, length-drop, drop, take}
 use borrow.Author.Needs.{needs}

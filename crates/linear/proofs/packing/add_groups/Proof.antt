@@ -1,10 +1,8 @@
 -- `linear::add_groups` meets its contract. The invariant: the first k bytes are the sums, and all else is as it was.
-use mathlib.Core.Path.{_≡_, refl, ap₂, _∙_}
-use Prim.Native.Nat.{ℕ, _-_, _≤_, _+_}
+use mathlib.Core.Path.{_≡_, refl, _∙_}
+use Prim.Native.Nat.{_-_, _≤_}
 use native.Mathlib.Omega.{arith}
-use lib.ListN.{length, getD}
-use borrow.Author.Needs.{needs}
-use Rattle.xor.specs.Xor.{_⊕_}
+use lib.ListN.{length}
 use Rattle.linear.specs.Packed.{sumBytes}
 use Rattle.linear.specs.Buffer.{Overwritten}
 use Rattle.linear.proofs.Packed.{more-added}

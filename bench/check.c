@@ -112,8 +112,32 @@ static int present_vectors(const struct plain *p)
         p->present(key, block, out);
         if (memcmp(out, vectors[v].sealed, 8) != 0)
             return 0;
+        p->standard(key, block, out);
+        if (memcmp(out, vectors[v].sealed, 8) != 0)
+            return 0;
+        if (p->encrypt(key, 10, block, 8, out, 8) != 0 || memcmp(out, vectors[v].sealed, 8) != 0)
+            return 0;
+        if (p->decrypt(key, 10, vectors[v].sealed, 8, out, 8) != 0 || memcmp(out, block, 8) != 0)
+            return 0;
     }
     return 1;
+}
+
+// Three blocks with one key: as one by one, and back again.
+static int many_blocks(const struct plain *p)
+{
+    uint8_t key[10], blocks[24], out[24], again[24], one[8], back[24];
+    fill_below(256, key, 10);
+    fill_below(256, blocks, 24);
+    p->encrypt_blocks(key, 3, blocks, out);
+    p->present_blocks(key, 3, blocks, again);
+    p->decrypt_blocks(key, 3, out, back);
+    for (size_t i = 0; i < 3; i++) {
+        p->present(key, blocks + 8 * i, one);
+        if (memcmp(out + 8 * i, one, 8) != 0)
+            return 0;
+    }
+    return memcmp(again, out, 24) == 0 && memcmp(back, blocks, 24) == 0;
 }
 
 // The vectors again, masked: a key and a block in random shares.
@@ -179,6 +203,8 @@ const char *check_plain(const struct plain *p)
         return "Fit with four output bits of six";
     if (!present_vectors(p))
         return "the vectors of PRESENT-80";
+    if (!many_blocks(p))
+        return "many blocks of PRESENT-80";
     for (size_t s = 1; s <= SHARES; s++) {
         if (!product_joins(p, 4, s) || !product_joins(p, 6, s))
             return "the joined masked product";

@@ -276,22 +276,169 @@ INLINE uint64_t with_nibble(uint64_t x, unsigned m, element v)
     return (x & ~((uint64_t)15 << 4 * m)) | (uint64_t)v << 4 * m;
 }
 
+// The key after a round.
+INLINE key_register next_key(key_register k, unsigned round)
+{
+    k = rotate(k);
+    k.high = with_nibble(k.high, 15, present_table[k.high >> 60]);
+    return add_round_number(k, round);
+}
+
+// The S-box on each nibble, and the permutation.
+INLINE uint64_t by_nibbles(uint64_t x)
+{
+    uint64_t y = 0;
+    for (unsigned m = 0; m < 64; m += 4)
+        y |= (uint64_t)present_table[x >> m & 15] << m;
+    return permute(y);
+}
+
 static void plain_present(const uint8_t key[10], const uint8_t block[8], uint8_t out[8])
 {
     key_register k = load_key(key);
     uint64_t x = load(block);
     for (unsigned round = 1; round <= 31; round++) {
-        x ^= k.high;
-        uint64_t y = 0;
-        for (unsigned m = 0; m < 64; m += 4)
-            y |= (uint64_t)present_table[x >> m & 15] << m;
-        x = permute(y);
-        k = rotate(k);
-        k.high = with_nibble(k.high, 15, present_table[k.high >> 60]);
-        k = add_round_number(k, round);
+        x = by_nibbles(x ^ k.high);
+        k = next_key(k, round);
     }
     store(out, x ^ k.high);
 }
+
+// As the standard is read: the S-box nibble by nibble, the permutation bit by bit.
+static void plain_standard(const uint8_t key[10], const uint8_t block[8], uint8_t out[8])
+{
+    key_register k = load_key(key);
+    uint64_t x = load(block);
+    for (unsigned round = 1; round <= 31; round++) {
+        uint64_t y = 0;
+        x ^= k.high;
+        for (unsigned i = 0; i < 64; i++)
+            y |= (uint64_t)(present_table[x >> i / 4 * 4 & 15] >> i % 4 & 1) << (i == 63 ? 63 : 16 * i % 63);
+        x = y;
+        k = next_key(k, round);
+    }
+    store(out, x ^ k.high);
+}
+
+INLINE void round_keys(const uint8_t *key, uint64_t keys[32])
+{
+    key_register k = load_key(key);
+    for (unsigned round = 1; round <= 32; round++) {
+        keys[round - 1] = k.high;
+        k = next_key(k, round);
+    }
+}
+
+static void plain_present_blocks(const uint8_t *restrict key, size_t n, const uint8_t *restrict blocks, uint8_t *restrict out)
+{
+    uint64_t keys[32];
+    round_keys(key, keys);
+    for (size_t i = 0; i < n; i++) {
+        uint64_t x = load(blocks + 8 * i);
+        for (unsigned r = 0; r < 31; r++)
+            x = by_nibbles(x ^ keys[r]);
+        store(out + 8 * i, x ^ keys[31]);
+    }
+}
+
+// ---- PRESENT-80 without masking, by tables: what each byte becomes at its place
+
+static uint64_t encryption[8][256], decryption[8][256];
+
+// The bits at the places of the mask exchanged with those k places higher.
+INLINE uint64_t exchange(uint64_t x, uint64_t mask, unsigned k)
+{
+    uint64_t d = (x >> k ^ x) & mask;
+    return x ^ d ^ d << k;
+}
+
+INLINE uint64_t unpermute(uint64_t x)
+{
+    x = exchange(x, 0x00000000ff00ff00, 24);
+    x = exchange(x, 0x0000f0f00000f0f0, 12);
+    x = exchange(x, 0x00cc00cc00cc00cc, 6);
+    return exchange(x, 0x0a0a0a0a0a0a0a0a, 3);
+}
+
+__attribute__((constructor)) static void make_tables(void)
+{
+    uint8_t inverse_table[ELEMENTS_4];
+    for (uint8_t v = 0; v < ELEMENTS_4; v++)
+        inverse_table[present_table[v]] = v;
+    for (unsigned j = 0; j < 8; j++)
+        for (unsigned v = 0; v < 256; v++) {
+            encryption[j][v] = permute((uint64_t)(present_table[v / 16] << 4 | present_table[v % 16]) << 8 * j);
+            decryption[j][v] = unpermute((uint64_t)(inverse_table[v / 16] << 4 | inverse_table[v % 16]) << 8 * j);
+        }
+}
+
+INLINE uint64_t look_up(const uint64_t table[8][256], uint64_t x)
+{
+    return table[0][x & 255] ^ table[1][x >> 8 & 255] ^ table[2][x >> 16 & 255] ^ table[3][x >> 24 & 255]
+        ^ table[4][x >> 32 & 255] ^ table[5][x >> 40 & 255] ^ table[6][x >> 48 & 255] ^ table[7][x >> 56];
+}
+
+static refusal plain_encrypt(const uint8_t *key, size_t key_len, const uint8_t *block, size_t block_len, uint8_t *out, size_t out_len)
+{
+    if (key_len != 10 || block_len != 8 || out_len != 8)
+        return 2;
+    key_register k = load_key(key);
+    uint64_t x = load(block);
+    for (unsigned round = 1; round <= 31; round++) {
+        x = look_up(encryption, x ^ k.high);
+        k = next_key(k, round);
+    }
+    store(out, x ^ k.high);
+    return 0;
+}
+
+// The keys of decryption, in the order of encryption: each by the inverse permutation.
+INLINE void inverse_keys(const uint8_t *key, uint64_t keys[32])
+{
+    round_keys(key, keys);
+    for (unsigned r = 0; r < 32; r++)
+        keys[r] = unpermute(keys[r]);
+}
+
+INLINE uint64_t decrypt_one(const uint64_t keys[32], uint64_t x)
+{
+    x = unpermute(x) ^ keys[31];
+    for (int r = 30; r >= 0; r--)
+        x = look_up(decryption, x) ^ keys[r];
+    return permute(x);
+}
+
+static refusal plain_decrypt(const uint8_t *key, size_t key_len, const uint8_t *block, size_t block_len, uint8_t *out, size_t out_len)
+{
+    if (key_len != 10 || block_len != 8 || out_len != 8)
+        return 2;
+    uint64_t keys[32];
+    inverse_keys(key, keys);
+    store(out, decrypt_one(keys, load(block)));
+    return 0;
+}
+
+static void plain_encrypt_blocks(const uint8_t *restrict key, size_t n, const uint8_t *restrict blocks, uint8_t *restrict out)
+{
+    uint64_t keys[32];
+    round_keys(key, keys);
+    for (size_t i = 0; i < n; i++) {
+        uint64_t x = load(blocks + 8 * i);
+        for (unsigned r = 0; r < 31; r++)
+            x = look_up(encryption, x ^ keys[r]);
+        store(out + 8 * i, x ^ keys[31]);
+    }
+}
+
+static void plain_decrypt_blocks(const uint8_t *restrict key, size_t n, const uint8_t *restrict blocks, uint8_t *restrict out)
+{
+    uint64_t keys[32];
+    inverse_keys(key, keys);
+    for (size_t i = 0; i < n; i++)
+        store(out + 8 * i, decrypt_one(keys, load(blocks + 8 * i)));
+}
+
+// ---- masked PRESENT-80
 
 // The form of width 4 at an input: q1 p1 + p2.
 static element form_at(const uint8_t *polynomial, element x)
@@ -735,4 +882,5 @@ static refusal plain_fit(unsigned width, unsigned bits, const uint8_t *table, si
     return 0;
 }
 
-const struct plain PLAIN = {NAME, plain_product, plain_sbox, plain_block, plain_aes_block, plain_fit, plain_present, plain_aes};
+const struct plain PLAIN = {NAME, plain_product, plain_sbox, plain_block, plain_aes_block, plain_fit, plain_present, plain_standard, plain_aes,
+    plain_encrypt, plain_decrypt, plain_present_blocks, plain_encrypt_blocks, plain_decrypt_blocks};

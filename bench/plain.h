@@ -42,11 +42,21 @@ struct plain {
     refusal (*fit)(unsigned width, unsigned bits, const uint8_t *table, size_t table_len, const uint8_t *basis, size_t basis_len,
         uint8_t *work, size_t work_len, uint8_t *record, size_t record_len);
 
-    // PRESENT-80 of one block, without masking.
+    // PRESENT-80 of one block, without masking: nibble by nibble, quickly, and as the standard is read, with each bit sent to its place.
     void (*present)(const uint8_t key[10], const uint8_t block[8], uint8_t out[8]);
+    void (*standard)(const uint8_t key[10], const uint8_t block[8], uint8_t out[8]);
 
     // AES-128 of one block, without masking.
     void (*aes)(const uint8_t key[16], const uint8_t block[16], uint8_t out[16]);
+
+    // PRESENT-80 of one block, without masking, by tables of eight times 256 entries, and back.
+    refusal (*encrypt)(const uint8_t *key, size_t key_len, const uint8_t *block, size_t block_len, uint8_t *out, size_t out_len);
+    refusal (*decrypt)(const uint8_t *key, size_t key_len, const uint8_t *block, size_t block_len, uint8_t *out, size_t out_len);
+
+    // n blocks with one key of 10 bytes: nibble by nibble, by tables, and back.
+    void (*present_blocks)(const uint8_t *key, size_t n, const uint8_t *blocks, uint8_t *out);
+    void (*encrypt_blocks)(const uint8_t *key, size_t n, const uint8_t *blocks, uint8_t *out);
+    void (*decrypt_blocks)(const uint8_t *key, size_t n, const uint8_t *blocks, uint8_t *out);
 };
 
 #endif

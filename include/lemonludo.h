@@ -1,6 +1,6 @@
-// The C interface of Lemonludo: masked S-boxes and masked PRESENT-80 over decompositions, and masked AES-128. For x86-64 Linux, with
-// libcapi.a (interface/README.md says how to build and link it; docs/FORMATS.md has the layout of records and sharings and the numbering
-// of steps).
+// The C interface of Lemonludo: masked S-boxes and masked PRESENT-80 over decompositions, masked AES-128, and PRESENT-80 without masking.
+// For x86-64 Linux, with libcapi.a (interface/README.md says how to build and link it; docs/FORMATS.md has the layout of records and
+// sharings and the numbering of steps).
 //
 // Slices. A slice is a pointer and the number of its elements. What is lent for writing (not const) must overlap nothing else that is
 // passed in the same call; slices that are only read may overlap each other. An empty slice may be NULL: nothing is read or written
@@ -103,6 +103,17 @@ void ll_block(const uint8_t *record, size_t record_len, uint32_t s, const uint8_
 void ll_block_watch(const uint8_t *record, size_t record_len, uint32_t s, const uint8_t *key_shares, size_t key_shares_len,
     const uint8_t *block_shares, size_t block_shares_len, const uint8_t *random, size_t random_len,
     const uint32_t *list, size_t list_len, uint8_t *values, size_t values_len, uint64_t answer[4]);
+
+// Encrypt: PRESENT-80 of one block, by tables. The key has 10 bytes, block and out 8, high byte first. Hands nothing back.
+// ll_encrypt and ll_decrypt are not masked: they are for a place where nobody measures.
+// Refuses: 2 any length wrong.
+void ll_encrypt(const uint8_t *key, size_t key_len, const uint8_t *block, size_t block_len,
+    uint8_t *out, size_t out_len, uint64_t answer[4]);
+
+// Decrypt: writes the block of which this one is the ciphertext; as ll_encrypt in all else.
+// Refuses: 2 any length wrong.
+void ll_decrypt(const uint8_t *key, size_t key_len, const uint8_t *block, size_t block_len,
+    uint8_t *out, size_t out_len, uint64_t answer[4]);
 
 // AES block: masked AES-128 (FIPS 197) of one block. Key shares, block shares and out have 16s bytes, random 400s(s-1), each byte an
 // element. Hands back products, random bytes and steps.

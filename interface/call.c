@@ -694,6 +694,61 @@ static void test_block_watch(void)
     expect(&op, "NULL list", 3, slices, counts, NULL);
 }
 
+// ---- Encrypt and Decrypt
+
+static void call_encrypt(uint32_t number, void *const *at, const size_t *len, uint64_t *answer)
+{
+    (void)number;
+    ll_encrypt(at[0], len[0], at[1], len[1], at[2], len[2], answer);
+}
+
+static void call_decrypt(uint32_t number, void *const *at, const size_t *len, uint64_t *answer)
+{
+    (void)number;
+    ll_decrypt(at[0], len[0], at[1], len[1], at[2], len[2], answer);
+}
+
+// Two of the three lengths wrong at once, in every way by one entry.
+static void two_wrong_lengths(const struct operation *op, const struct slice *accepted)
+{
+    for (unsigned way = 0; way < 12; way++) {
+        struct slice slices[3];
+        memcpy(slices, accepted, sizeof slices);
+        for (unsigned k = 0; k < 2; k++)
+            slices[(way / 4 + k) % 3].len += way >> k & 1 ? 1 : (size_t)-1;
+        expect(op, "two lengths wrong", 0, slices, refused(LL_LENGTH, 0), NULL);
+    }
+}
+
+// The published vectors, from the block to the ciphertext or back, and the lengths.
+static void unshared_calls(const struct operation *op, int back)
+{
+    uint8_t key[11] = {0}, block[9] = {0}, ciphertext[9] = {0};
+    const struct slice slices[] = {bytes(key, 10), bytes(back ? ciphertext : block, 8), space(8)};
+    for (unsigned v = 0; v < 4; v++) {
+        memset(key, vectors[v].key, 10);
+        memset(block, vectors[v].block, 8);
+        memcpy(ciphertext, vectors[v].ciphertext, 8);
+        expect(op, "published vector", 0, slices, done(0, 0, 0), back ? block : ciphertext);
+    }
+    wrong_lengths(op, 0, slices);
+    two_wrong_lengths(op, slices);
+    expect(op, "key and block exchanged", 0, (struct slice[]){bytes(block, 8), bytes(key, 10), space(8)}, refused(LL_LENGTH, 0), NULL);
+    expect(op, "all NULL", 0, (struct slice[]){null(), null(), null()}, refused(LL_LENGTH, 0), NULL);
+}
+
+static void test_encrypt(void)
+{
+    static const struct operation op = {"ll_encrypt", 3, 1, call_encrypt};
+    unshared_calls(&op, 0);
+}
+
+static void test_decrypt(void)
+{
+    static const struct operation op = {"ll_decrypt", 3, 1, call_decrypt};
+    unshared_calls(&op, 1);
+}
+
 // ---- AES block and its watch
 
 enum { AES_PRODUCTS = 800, AES_RANDOM = 2400, AES_STEPS = 26050 }; // with three shares
@@ -925,6 +980,8 @@ int main(void)
     report("ll_sbox_watch", test_sbox_watch);
     report("ll_block", test_block);
     report("ll_block_watch", test_block_watch);
+    report("ll_encrypt", test_encrypt);
+    report("ll_decrypt", test_decrypt);
     report("ll_aes_block", test_aes_block);
     report("ll_aes_block_watch", test_aes_block_watch);
     report("ll_split", test_split);

@@ -399,6 +399,35 @@ fn block_watch(c: &mut Calls) {
     c.answer("NULL list", answer, BLOCK_COUNTS);
 }
 
+fn encrypt(c: &mut Calls) {
+    for (key, block, ciphertext) in VECTORS {
+        let out = c.fills("vector", 8, done(0, 0, 0), |out| ll::encrypt(&[key; 10], &[block; 8], out));
+        c.same("vector", out, ciphertext.to_be_bytes().to_vec());
+    }
+    c.wrong_lengths([&[0; 10], &[0; 8]], 8, |[key, block], out| ll::encrypt(key, block, out));
+    c.refuses("key one short, block one long", 8, 2, 0, |out| ll::encrypt(&[0; 9], &[0; 9], out));
+    let answer = by_hand(|a| unsafe { raw::ll_encrypt(null(), 0, null(), 0, null_mut(), 0, a) });
+    c.answer("NULL", answer, refused(2, 0));
+}
+
+fn decrypt(c: &mut Calls) {
+    for (key, block, ciphertext) in VECTORS {
+        let out = c.fills("vector", 8, done(0, 0, 0), |out| ll::decrypt(&[key; 10], &ciphertext.to_be_bytes(), out));
+        c.same("vector", out, vec![block; 8]);
+    }
+    for k in 0..16 {
+        let (key, block) = (random_bytes(10 + k), random_bytes(26 + k));
+        let (key, block) = (&key[k..], &block[18 + k..]);
+        let ciphertext = c.fills("sealed", 8, done(0, 0, 0), |out| ll::encrypt(key, block, out));
+        let out = c.fills("opened", 8, done(0, 0, 0), |out| ll::decrypt(key, &ciphertext, out));
+        c.same("opened", out, block.to_vec());
+    }
+    c.wrong_lengths([&[0; 10], &[0; 8]], 8, |[key, block], out| ll::decrypt(key, block, out));
+    c.refuses("key one long, block one short", 8, 2, 0, |out| ll::decrypt(&[0; 11], &[0; 7], out));
+    let answer = by_hand(|a| unsafe { raw::ll_decrypt(null(), 0, null(), 0, null_mut(), 0, a) });
+    c.answer("NULL", answer, refused(2, 0));
+}
+
 /// Key, block and ciphertext of FIPS 197, appendices B and C.1.
 const AES_VECTORS: [(u128, u128, u128); 2] = [
     (0x2b7e151628aed2a6abf7158809cf4f3c, 0x3243f6a8885a308d313198a2e0370734, 0x3925841d02dc09fbdc118597196a0b32),
@@ -528,6 +557,8 @@ fn main() {
     failed += report("ll_sbox_watch", sbox_watch);
     failed += report("ll_block", block);
     failed += report("ll_block_watch", block_watch);
+    failed += report("ll_encrypt", encrypt);
+    failed += report("ll_decrypt", decrypt);
     failed += report("ll_aes_block", aes_block);
     failed += report("ll_aes_block_watch", aes_block_watch);
     failed += report("ll_split", split);

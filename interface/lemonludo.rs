@@ -27,6 +27,10 @@ pub mod raw {
         pub fn ll_block_watch(record: *const u8, record_len: usize, s: u32, key_shares: *const u8, key_shares_len: usize,
             block_shares: *const u8, block_shares_len: usize, random: *const u8, random_len: usize,
             list: *const u32, list_len: usize, values: *mut u8, values_len: usize, answer: &mut Answer);
+        pub fn ll_encrypt(key: *const u8, key_len: usize, block: *const u8, block_len: usize,
+            out: *mut u8, out_len: usize, answer: &mut Answer);
+        pub fn ll_decrypt(key: *const u8, key_len: usize, block: *const u8, block_len: usize,
+            out: *mut u8, out_len: usize, answer: &mut Answer);
         pub fn ll_aes_block(s: u32, key_shares: *const u8, key_shares_len: usize,
             block_shares: *const u8, block_shares_len: usize, random: *const u8, random_len: usize,
             out: *mut u8, out_len: usize, answer: &mut Answer);
@@ -105,6 +109,24 @@ pub fn block_watch(record: &[u8], s: u32, key_shares: &[u8], block_shares: &[u8]
         raw::ll_block_watch(record.as_ptr(), record.len(), s, key_shares.as_ptr(), key_shares.len(),
             block_shares.as_ptr(), block_shares.len(), random.as_ptr(), random.len(),
             list.as_ptr(), list.len(), values.as_mut_ptr(), values.len(), &mut answer)
+    };
+    answer
+}
+
+pub fn encrypt(key: &[u8], block: &[u8], out: &mut [u8]) -> Answer {
+    let mut answer = [0; 4];
+    unsafe {
+        raw::ll_encrypt(key.as_ptr(), key.len(), block.as_ptr(), block.len(),
+            out.as_mut_ptr(), out.len(), &mut answer)
+    };
+    answer
+}
+
+pub fn decrypt(key: &[u8], block: &[u8], out: &mut [u8]) -> Answer {
+    let mut answer = [0; 4];
+    unsafe {
+        raw::ll_decrypt(key.as_ptr(), key.len(), block.as_ptr(), block.len(),
+            out.as_mut_ptr(), out.len(), &mut answer)
     };
     answer
 }

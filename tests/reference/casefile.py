@@ -12,6 +12,7 @@ FILLED = "filled"  # the byte that fills the slice, then its length in 4 bytes
 
 RECORD = ("record", BYTES)
 S = ("s", NUMBER)
+UNSHARED = (("key", BYTES), ("block", BYTES), ("out", BYTES))
 
 # The parameters of each operation, in the paper's order.
 PARAMETERS = {
@@ -52,6 +53,8 @@ PARAMETERS = {
         ("list", LIST),
         ("values", BYTES),
     ),
+    "encrypt": UNSHARED,
+    "decrypt": UNSHARED,
     "aes_block": (
         S,
         ("key_shares", BYTES),

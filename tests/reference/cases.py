@@ -1243,6 +1243,60 @@ def aes_block_watch_cases():
         yield (*inputs, steps, prng.pattern(len(steps)))
 
 
+# ----------------------------------------------------------- Encrypt, Decrypt
+
+
+def single_bits(size):
+    """For each bit of a value of so many bytes, the value with this bit alone."""
+    return [(1 << bit).to_bytes(size, "big") for bit in range(8 * size)]
+
+
+def unshared_valid(prng):
+    """Keys and blocks: zero, all ones, each bit alone, each byte in all bytes, random."""
+    for key in (bytes(10), b"\xff" * 10):
+        for block in (bytes(8), b"\xff" * 8):
+            yield key, block
+    for key in single_bits(10):
+        yield key, bytes(8)
+    for block in single_bits(8):
+        yield bytes(10), block
+    for byte in range(256):
+        yield prng.bytes(10), bytes([byte]) * 8
+    for _ in range(200):
+        yield prng.bytes(10), prng.bytes(8)
+
+
+def unshared_refused(prng):
+    """Each length wrong by itself, two at once in every way, all three."""
+    good = prng.bytes(10), prng.bytes(8), prng.pattern(8)
+    yield from one_length_wrong(prng, good, (0, 1, 2))
+    for place in (0, 1, 2):
+        for other in one_length_wrong(prng, good, (place,)):
+            yield from one_length_wrong(prng, other, range(place + 1, 3))
+    for place, length in ((0, 8), (0, 16), (0, 20), (1, 10), (1, 16), (2, 10), (2, 16)):
+        yield change_length(prng, good, place, length)
+    for place in (0, 1, 2):  # the low byte of the length would do
+        yield change_length(prng, good, place, len(good[place]) + 256)
+    yield good[1], good[0], good[2]  # key and block exchanged
+    yield prng.bytes(9), prng.bytes(7), prng.pattern(7)
+    yield b"", b"", b""
+
+
+def unshared_cases(prng, some):
+    """Some keys and blocks, those of both operations, and what is refused."""
+    for key, block in (*some, *unshared_valid(prng)):
+        yield key, block, prng.pattern(8)
+    yield from unshared_refused(prng)
+
+
+def encrypt_cases():
+    return unshared_cases(Prng(113), [(key, block) for key, block, _ in vectors()])
+
+
+def decrypt_cases():
+    return unshared_cases(Prng(114), [(key, block) for key, _, block in vectors()])
+
+
 # ----------------------------------------------------------------- Split, Join
 
 
@@ -1308,6 +1362,8 @@ INPUTS = {
     "sbox_watch": sbox_watch_cases,
     "block": block_cases,
     "block_watch": block_watch_cases,
+    "encrypt": encrypt_cases,
+    "decrypt": decrypt_cases,
     "aes_block": aes_block_cases,
     "aes_block_watch": aes_block_watch_cases,
     "split": split_cases,

@@ -1,9 +1,10 @@
-"""The twelve operations. Each returns an Answer; the tests come first.
+"""The fourteen operations. Each returns an Answer; the tests come first.
 
 Slices are bytes, a watch list is a list of numbers. An output is given with
 its content before the call; the answer holds its content after the call.
 """
 
+import present
 from aes_steps import aes_random, aes_steps, masked_aes
 from answers import (
     NO_SUCH_STEP,
@@ -126,6 +127,24 @@ def block_watch(record, s, key_shares, block_shares, random, steps, values):
     return done(trace.counts(), [watched(trace, steps)])
 
 
+# ----------------------------------------------------------- Encrypt, Decrypt
+
+
+def unshared(cipher, key, block, out):
+    refusal = lengths_differ((key, 10), (block, 8), (out, 8))
+    if refusal:
+        return refused(refusal, [out])
+    return done([], [cipher(key, block)])
+
+
+def encrypt(key, block, out):
+    return unshared(present.encrypt, key, block, out)
+
+
+def decrypt(key, block, out):
+    return unshared(present.decrypt, key, block, out)
+
+
 # ------------------------------------------------------------------ AES block
 
 
@@ -234,6 +253,8 @@ OPERATIONS = {
     "sbox_watch": sbox_watch,
     "block": block,
     "block_watch": block_watch,
+    "encrypt": encrypt,
+    "decrypt": decrypt,
     "aes_block": aes_block,
     "aes_block_watch": aes_block_watch,
     "split": split,

@@ -1,6 +1,7 @@
 """PRESENT-80, unmasked, straight from the standard (CHES 2007)."""
 
 SBOX = (12, 5, 6, 11, 9, 0, 10, 13, 3, 14, 15, 8, 4, 7, 1, 2)
+INVERSE_SBOX = tuple(SBOX.index(value) for value in range(16))
 ROUNDS = 31
 
 # Key, block, ciphertext: the authors' four vectors.
@@ -23,10 +24,17 @@ def permute(state):
     return result
 
 
-def sbox_layer(state):
+def unpermute(state):
+    result = 0
+    for i in range(64):
+        result |= (state >> bit_target(i) & 1) << i
+    return result
+
+
+def sbox_layer(state, table=SBOX):
     result = 0
     for k in range(16):
-        result |= SBOX[state >> 4 * k & 15] << 4 * k
+        result |= table[state >> 4 * k & 15] << 4 * k
     return result
 
 
@@ -53,6 +61,20 @@ def encrypt(key, block):
     return state.to_bytes(8, "big")
 
 
+def decrypt(key, block):
+    """The ciphertext back: the round keys from the last to the first, each round undone."""
+    key = int.from_bytes(key, "big")
+    state = int.from_bytes(block, "big")
+    round_keys = [key >> 16]
+    for number in range(1, ROUNDS + 1):
+        key = update_key(key, number)
+        round_keys.append(key >> 16)
+    state ^= round_keys.pop()
+    while round_keys:
+        state = sbox_layer(unpermute(state), INVERSE_SBOX) ^ round_keys.pop()
+    return state.to_bytes(8, "big")
+
+
 def vectors():
     for texts in VECTORS:
         yield tuple(bytes.fromhex(text) for text in texts)
@@ -60,6 +82,6 @@ def vectors():
 
 if __name__ == "__main__":
     for key, block, ciphertext in vectors():
-        if encrypt(key, block) != ciphertext:
+        if encrypt(key, block) != ciphertext or decrypt(key, ciphertext) != block:
             raise SystemExit("PRESENT-80 differs from the authors' vectors")
-    print("the authors' four vectors agree")
+    print("the authors' four vectors agree, both ways")

@@ -63,6 +63,8 @@ from operations import (
     block,
     block_watch,
     check,
+    decrypt,
+    encrypt,
     fit,
     house_fit,
     join,
@@ -556,6 +558,32 @@ def test_block():
             same("masked is unmasked", joined_block(prng, record, s, key, plain), expected)
 
 
+def test_unshared():
+    """Both ways at the vectors, each undoes the other, and the lengths."""
+    prng = Prng(8)
+    pairs = [(key, plain) for key, plain, _ in present.vectors()]
+    pairs += [(prng.bytes(10), prng.bytes(8)) for _ in range(50)]
+    for key, plain, ciphertext in present.vectors():
+        same("Encrypt", encrypt(key, plain, bytes(8)), (0, (), (ciphertext,)))
+        same("Decrypt", decrypt(key, ciphertext, bytes(8)), (0, (), (plain,)))
+    for key, block in pairs:
+        ciphertext = encrypt(key, block, bytes(8)).outputs[0]
+        same("Decrypt undoes Encrypt", decrypt(key, ciphertext, bytes(8)).outputs[0], block)
+        plain = decrypt(key, block, bytes(8)).outputs[0]
+        same("Encrypt undoes Decrypt", encrypt(key, plain, bytes(8)).outputs[0], block)
+    for i in range(64):
+        same("inverse permutation", present.unpermute(1 << present.bit_target(i)), 1 << i)
+    for key in range(13):
+        for block in range(11):
+            for n in range(11):
+                number = 0 if (key, block, n) == (10, 8, 8) else 2
+                out = b"\xee" * n
+                for operation in (encrypt, decrypt):
+                    answer = operation(bytes(key), bytes(block), out)
+                    same("lengths", answer.number, number)
+                    same("unchanged if refused", answer.outputs[0] == out, number != 0)
+
+
 def test_watch():
     """A watch shows the trace, place by place."""
     prng = Prng(6)
@@ -877,6 +905,8 @@ def test_case_files():
         "house_fit": {0, 2, 3},
         "sbox": {0, 1, 2, 3, 5, 7, 9},
         "sbox_watch": {0, 1, 2, 3, 5, 7, 8, 9},
+        "encrypt": {0, 2},
+        "decrypt": {0, 2},
         "aes_block": {0, 2, 7},
         "aes_block_watch": {0, 2, 7, 8},
         "split": {0, 2, 7},
@@ -908,6 +938,7 @@ TESTS = (
     test_step_rules,
     test_block_totals,
     test_block,
+    test_unshared,
     test_watch,
     test_aes,
     test_aes_first_round,

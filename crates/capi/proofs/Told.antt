@@ -20,6 +20,8 @@ use Rattle.decomposition.specs.Layout.{head, known, layout, paired, recordSize}
 use Rattle.decomposition.specs.Solution.{solvable}
 use Rattle.sbox.specs.Operations as sbox
 use Rattle.cipher.specs.Operations as cipher
+use Rattle.present.specs.Present.{Size}
+use Rattle.unshared.specs.Operations.{unsharedLengths, unsharedOutcome}
 use Rattle.aes.specs.Operations as aes
 use Rattle.capi.specs.Words.{words, Told}
 
@@ -134,6 +136,10 @@ pub block-watch-told : (r : List ℕ) (s : ℕ) (key block random list : List �
 unfolding cipher.watchOutcome cipher.blockCall
 block-watch-told r s key block random list values =
     watch-told (cipher.blockCall r s key block random) list values (block-tests-told r s key block random (listFits (length list) values))
+
+pub unshared-told : (z : Size) (key block out : ℕ) → Told (unsharedOutcome z key block out)
+unfolding unsharedOutcome
+unshared-told z key block out = told-test (unsharedLengths z key block out) 2 0 (done []) (omega arith) tt
 
 aes-tests-told : (s key block random : ℕ) (fits : Bool) → Told (aes.callTests s key block random fits)
 unfolding aes.callTests

@@ -8,6 +8,8 @@ ghost use Rattle.decomposition.specs.Check.{checkOutcome};
 ghost use Rattle.decomposition.specs.Fit.{fitEnd, houseEnd};
 ghost use Rattle.sbox.specs.Operations.{sboxOutcome, sboxOutput, watchOutcome, watchOutput};
 ghost use Rattle.cipher.specs.Operations.{blockOutcome, blockOutput, watchOutcome as block·watchOutcome, watchOutput as block·watchOutput};
+ghost use Rattle.present.specs.Present.{size80};
+ghost use Rattle.unshared.specs.Operations.{unsharedOutcome, encryptOutput, decryptOutput};
 ghost use Rattle.aes.specs.Operations.{blockOutcome as aes·blockOutcome, blockOutput as aes·blockOutput, watchOutcome as aes·watchOutcome, watchOutput as aes·watchOutput};
 ghost use Rattle.capi.specs.Words.{words, Reported, ReportedFit};
 use aes::BlockAnswer as AesBlockAnswer;
@@ -22,6 +24,8 @@ use sbox::SboxAnswer;
 use sbox::WatchAnswer;
 use steps::JoinAnswer;
 use steps::SplitAnswer;
+use unshared::DecryptAnswer;
+use unshared::EncryptAnswer;
 
 // Fills the answer.
 fn put(answer: &mut [u64; 4], number: u64, first: u64, second: u64, third: u64)
@@ -201,6 +205,40 @@ pub extern "C" fn ll_block_watch(
             steps,
         } => { put(answer, 0, products as u64, random as u64, steps as u64) }
         BlockWatchAnswer::Refused { number, place } => {
+            put(answer, number as u64, place as u64, 0, 0)
+        }
+    }
+}
+
+// Encrypt hands nothing back.
+#[no_mangle]
+pub extern "C" fn ll_encrypt(key: &[u8], block: &[u8], out: &mut [u8], answer: &mut [u64; 4])
+    ensures { λ u. ⌜ Reported
+        (unsharedOutcome size80 (length (now (key .entry))) (length (now (block .entry))) (length (now (out .entry))))
+        (encryptOutput size80 (now (key .entry)) (now (block .entry)))
+        (now (out .entry)) (now (answer .exit)) (now (out .exit)) ⌝ }
+{
+    let a = unshared::encrypt(key, block, out);
+    match a {
+        EncryptAnswer::Done => put(answer, 0, 0, 0, 0),
+        EncryptAnswer::Refused { number, place } => {
+            put(answer, number as u64, place as u64, 0, 0)
+        }
+    }
+}
+
+// Decrypt hands nothing back.
+#[no_mangle]
+pub extern "C" fn ll_decrypt(key: &[u8], block: &[u8], out: &mut [u8], answer: &mut [u64; 4])
+    ensures { λ u. ⌜ Reported
+        (unsharedOutcome size80 (length (now (key .entry))) (length (now (block .entry))) (length (now (out .entry))))
+        (decryptOutput size80 (now (key .entry)) (now (block .entry)))
+        (now (out .entry)) (now (answer .exit)) (now (out .exit)) ⌝ }
+{
+    let a = unshared::decrypt(key, block, out);
+    match a {
+        DecryptAnswer::Done => put(answer, 0, 0, 0, 0),
+        DecryptAnswer::Refused { number, place } => {
             put(answer, number as u64, place as u64, 0, 0)
         }
     }

@@ -1,5 +1,6 @@
--- The four exchanges are the permutation: both are additive, and they agree at each bit.
-use mathlib.Core.Path.{_≡_, sym, ap, ap₂, _∙_}
+-- Four exchanges are the permutation, and in the other order its inverse: both are additive, and they agree at each bit.
+use mathlib.Core.Path.{_≡_, refl, sym, ap, ap₂, _∙_}
+use mathlib.Core.List.{List, [], _∷_}
 use mathlib.Core.Logic.{_⊎_, inl, inr}
 use Prim.Native.Nat.{ℕ, _*_, _/_, _%_, _^_, _<_}
 use native.Mathlib.Omega.{arith}
@@ -12,8 +13,10 @@ use Rattle.xor.proofs.Sum.{additive-below}
 use Rattle.xor.proofs.Basis.{agree}
 use Rattle.field.proofs.Tests.{same-below}
 use Rattle.steps.specs.Iterate.{turns, iterate}
+use Rattle.steps.specs.Linear.{Linear}
 use Rattle.present.specs.Present.{bit, place, send, permute}
-use Rattle.present.proofs.Numbers.{⊕-shl, permute-linear}
+use Rattle.present.specs.Decrypt.{fetch, unpermute}
+use Rattle.present.proofs.Numbers.{⊕-shl, permute-linear, unpermute-linear}
 use Rattle.layers.specs.Swap.{difference, exchange}
 
 -- ---- masks
@@ -59,31 +62,45 @@ exchange-additive m k x y =
     ap₂ _⊕_ (ap (λ (v : ℕ). (x ⊕ y) ⊕ v) (difference-additive m k x y) ∙ ⊕-exchange x y (d x) (d y)) low
     ∙ ⊕-exchange (x ⊕ d x) (y ⊕ d y) (d x * 2 ^ k % 2 ^ 64) (d y * 2 ^ k % 2 ^ 64)
 
+-- exchanges one after the other, each a mask and a distance
+exchanges : List (ℕ × ℕ) → ℕ → ℕ
+exchanges [] x = x
+exchanges (e ∷ l) x = exchanges l (exchange (e .0) (e .1) x)
+
+exchanges-additive : (l : List (ℕ × ℕ)) → Additive (exchanges l)
+unfolding exchanges
+exchanges-additive [] x y = refl
+exchanges-additive (e ∷ l) x y = ap (exchanges l) (exchange-additive (e .0) (e .1) x y) ∙ exchanges-additive l _ _
+
+-- exchanges that send each bit to the place that p sends it to
+exchanges-are : (l : List (ℕ × ℕ)) (p : ℕ → ℕ) → Linear 64 64 p → ((i : ℕ) → i < 64 → exchanges l (2 ^ i) ≡ p (2 ^ i))
+    → (x : ℕ) → x < 2 ^ 64 → p x ≡ exchanges l x
+exchanges-are l p linear same x h = sym (agree 64 (exchanges l) p (additive-below 64 (exchanges l) (exchanges-additive l)) (linear .additive) same x h)
+
 -- ---- the permutation
 
 -- index bits 0 and 2, 1 and 3, 2 and 4, 3 and 5 are exchanged
-exchanges : ℕ → ℕ
-exchanges x =
-    exchange 0x00000000FF00FF00 24 (exchange 0x0000F0F00000F0F0 12 (exchange 0x00CC00CC00CC00CC 6 (exchange 0x0A0A0A0A0A0A0A0A 3 x)))
+abbrev forth : List (ℕ × ℕ)
+forth = (0x0A0A0A0A0A0A0A0A, 3) ∷ (0x00CC00CC00CC00CC, 6) ∷ (0x0000F0F00000F0F0, 12) ∷ (0x00000000FF00FF00, 24) ∷ []
 
-exchanges-additive : Additive exchanges
-unfolding exchanges
-exchanges-additive x y =
-    let a = exchange-additive 0x0A0A0A0A0A0A0A0A 3 x y in
-    let b = exchange-additive 0x00CC00CC00CC00CC 6 _ _ in
-    let c = exchange-additive 0x0000F0F00000F0F0 12 _ _ in
-    ap (λ (v : ℕ). exchange 0x00000000FF00FF00 24 (exchange 0x0000F0F00000F0F0 12 (exchange 0x00CC00CC00CC00CC 6 v))) a
-    ∙ ap (λ (v : ℕ). exchange 0x00000000FF00FF00 24 (exchange 0x0000F0F00000F0F0 12 v)) b
-    ∙ ap (λ (v : ℕ). exchange 0x00000000FF00FF00 24 v) c
-    ∙ exchange-additive 0x00000000FF00FF00 24 _ _
+-- and in the other order
+abbrev back : List (ℕ × ℕ)
+back = (0x00000000FF00FF00, 24) ∷ (0x0000F0F00000F0F0, 12) ∷ (0x00CC00CC00CC00CC, 6) ∷ (0x0A0A0A0A0A0A0A0A, 3) ∷ []
 
--- the two send each bit to the same place
-same-bits : (i : ℕ) → i < 64 → exchanges (2 ^ i) ≡ permute (2 ^ i)
+forth-bits : (i : ℕ) → i < 64 → exchanges forth (2 ^ i) ≡ permute (2 ^ i)
 unfolding exchanges exchange difference permute iterate turns send bit place _⊕_
-same-bits = same-below 64 (λ i. exchanges (2 ^ i)) (λ i. permute (2 ^ i)) tt
+forth-bits = same-below 64 (λ i. exchanges forth (2 ^ i)) (λ i. permute (2 ^ i)) tt
+
+back-bits : (i : ℕ) → i < 64 → exchanges back (2 ^ i) ≡ unpermute (2 ^ i)
+unfolding exchanges exchange difference unpermute iterate turns fetch bit place _⊕_
+back-bits = same-below 64 (λ i. exchanges back (2 ^ i)) (λ i. unpermute (2 ^ i)) tt
 
 pub exchanges-permute : (x : ℕ) → x < 2 ^ 64
     → permute x ≡ exchange 0x00000000FF00FF00 24 (exchange 0x0000F0F00000F0F0 12 (exchange 0x00CC00CC00CC00CC 6 (exchange 0x0A0A0A0A0A0A0A0A 3 x)))
 unfolding exchanges
-exchanges-permute x h =
-    sym (agree 64 exchanges permute (additive-below 64 exchanges exchanges-additive) (permute-linear .additive) same-bits x h)
+exchanges-permute = exchanges-are forth permute permute-linear forth-bits
+
+pub exchanges-unpermute : (x : ℕ) → x < 2 ^ 64
+    → unpermute x ≡ exchange 0x0A0A0A0A0A0A0A0A 3 (exchange 0x00CC00CC00CC00CC 6 (exchange 0x0000F0F00000F0F0 12 (exchange 0x00000000FF00FF00 24 x)))
+unfolding exchanges
+exchanges-unpermute = exchanges-are back unpermute unpermute-linear back-bits

@@ -1,4 +1,4 @@
--- For inner contracts only. Bits that are exchanged over a distance: four such exchanges are the permutation.
+-- For inner contracts only. Bits that are exchanged over a distance: four such exchanges are the permutation, and in the other order its inverse.
 use Prim.Native.Nat.{ℕ, _*_, _/_, _%_, _^_}
 use lib.Bits.{bitAnd}
 use Rattle.xor.specs.Xor.{_⊕_}

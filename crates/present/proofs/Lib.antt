@@ -1,4 +1,6 @@
 pub mod Numbers
+pub mod Layer
+pub mod Inverse
 pub mod Recording
 pub mod Joined
 pub mod Counts

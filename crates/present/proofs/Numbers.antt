@@ -16,6 +16,7 @@ use Rattle.steps.proofs.Tests.{told-apart}
 use Rattle.steps.proofs.Bytes.{⊕-block}
 use Rattle.steps.specs.Iterate.{turns, iterate}
 use Rattle.present.specs.Present.{bit, nibble, replace, place, send, permute, Size, keyBits, Sound, size80, roundKey, rotate, roundNumber}
+use Rattle.present.specs.Decrypt.{fetch, unpermute}
 use Rattle.steps.specs.Linear.{Linear, LinearPair}
 
 -- ---- sums of blocks of bits
@@ -121,23 +122,33 @@ place-injective i j hi hj e = go (ℕ-discrete i 63) (ℕ-discrete j 63)
         let h : 16 * i % 63 ≡ 16 * j % 63 = sym (place-other i f) ∙ e ∙ place-other j g in
         sym (back i (omega arith)) ∙ ap (λ (p : ℕ). 4 * p % 63) h ∙ back j (omega arith)
 
--- a sum of bits that are sent is sent bit by bit
-sent-additive : (k x y : ℕ) → turns (send (x ⊕ y)) 0 k 0 ≡ turns (send x) 0 k 0 ⊕ turns (send y) 0 k 0
-unfolding turns send
-sent-additive zero x y = sym (⊕-zero 0)
-sent-additive (suc k) x y =
-    rw (sent-additive k x y, bit-additive (0 + k) x y, ⊕-shl (bit (0 + k) x) (bit (0 + k) y) (place (0 + k))) (⊕-exchange _ _ _ _)
+-- bits that go from the places p i to the places q i, for i below k: those of a sum go as those of its summands
+moved-additive : (p q : ℕ → ℕ) (k x y : ℕ)
+    → turns (λ i w. w ⊕ bit (p i) (x ⊕ y) * 2 ^ q i) 0 k 0
+    ≡ turns (λ i w. w ⊕ bit (p i) x * 2 ^ q i) 0 k 0 ⊕ turns (λ i w. w ⊕ bit (p i) y * 2 ^ q i) 0 k 0
+unfolding turns
+moved-additive p q zero x y = sym (⊕-zero 0)
+moved-additive p q (suc k) x y =
+    rw (moved-additive p q k x y, bit-additive (p (0 + k)) x y, ⊕-shl (bit (p (0 + k)) x) (bit (p (0 + k)) y) (q (0 + k))) (⊕-exchange _ _ _ _)
 
-sent-lt : (k x : ℕ) → turns (send x) 0 k 0 < 2 ^ 64
-unfolding turns send
-sent-lt zero x = pow-pos 64
-sent-lt (suc k) x =
-    let p = place-lt (0 + k) in
-    ⊕-lt 64 (sent-lt k x) (lt-of-lt-of-le (shl-lt 1 (place (0 + k)) (bit-lt (0 + k) x)) (pow-mono {j = 64} (omega arith)))
+-- to places below 64
+moved-lt : (p q : ℕ → ℕ) (k x : ℕ) → ((i : ℕ) → i < k → q i < 64) → turns (λ i w. w ⊕ bit (p i) x * 2 ^ q i) 0 k 0 < 2 ^ 64
+unfolding turns
+moved-lt p q zero x h = pow-pos 64
+moved-lt p q (suc k) x h =
+    let l : q (0 + k) < 64 = h (0 + k) (omega arith) in
+    ⊕-lt 64 (moved-lt p q k x (λ i m. h i (omega arith)))
+    (lt-of-lt-of-le (shl-lt 1 (q (0 + k)) (bit-lt (p (0 + k)) x)) (pow-mono {j = 64} (omega arith)))
 
 pub permute-linear : Linear 64 64 permute
-unfolding permute iterate
-permute-linear = record { additive = λ x y hx hy. sent-additive 64 x y; small = λ x h. sent-lt 64 x }
+unfolding permute iterate send
+permute-linear =
+    record { additive = λ x y hx hy. moved-additive (λ i. i) place 64 x y; small = λ x h. moved-lt (λ i. i) place 64 x (λ i l. place-lt i) }
+
+pub unpermute-linear : Linear 64 64 unpermute
+unfolding unpermute iterate fetch
+unpermute-linear =
+    record { additive = λ x y hx hy. moved-additive place (λ i. i) 64 x y; small = λ x h. moved-lt place (λ i. i) 64 x (λ i l. l) }
 
 bit-zero : (p : ℕ) → bit p 0 ≡ 0
 unfolding bit

@@ -1,4 +1,5 @@
 pub mod Present
+pub mod Decrypt
 pub mod Vectors
 pub mod Masked
 pub mod Experiment

@@ -6,6 +6,7 @@ mod refusing;
 mod sealing;
 mod sharing;
 mod text;
+mod unmasked;
 mod watching;
 
 // Says what the page is, and what in it must not be copied.
@@ -30,4 +31,5 @@ fn main() {
     sealing::part(&record, &key, &block, &random);
     watching::part(&record, &key, &block, &random);
     aes_sealing::part();
+    unmasked::part();
 }

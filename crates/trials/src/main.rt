@@ -12,6 +12,8 @@ mod try_aes_block_watch;
 mod try_block;
 mod try_block_watch;
 mod try_check;
+mod try_decrypt;
+mod try_encrypt;
 mod try_fit;
 mod try_house_fit;
 mod try_join;
@@ -52,6 +54,8 @@ fn main() {
     agree = agree & try_file(b"sbox_watch", b"sbox_watch.cases", Operation::SboxWatch);
     agree = agree & try_file(b"block", b"block.cases", Operation::Block);
     agree = agree & try_file(b"block_watch", b"block_watch.cases", Operation::BlockWatch);
+    agree = agree & try_file(b"encrypt", b"encrypt.cases", Operation::Encrypt);
+    agree = agree & try_file(b"decrypt", b"decrypt.cases", Operation::Decrypt);
     agree = agree & try_file(b"aes_block", b"aes_block.cases", Operation::AesBlock);
     agree = agree
         & try_file(

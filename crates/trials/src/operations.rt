@@ -5,6 +5,8 @@ use crate::try_aes_block_watch::try_aes_block_watch;
 use crate::try_block::try_block;
 use crate::try_block_watch::try_block_watch;
 use crate::try_check::try_check;
+use crate::try_decrypt::try_decrypt;
+use crate::try_encrypt::try_encrypt;
 use crate::try_fit::try_fit;
 use crate::try_house_fit::try_house_fit;
 use crate::try_join::try_join;
@@ -22,6 +24,8 @@ pub enum Operation {
     SboxWatch,
     Block,
     BlockWatch,
+    Encrypt,
+    Decrypt,
     AesBlock,
     AesBlockWatch,
     Split,
@@ -39,6 +43,8 @@ pub fn try_case(operation: Operation, file: &[u8], at: usize) -> Trial {
         Operation::SboxWatch => try_sbox_watch(file, at),
         Operation::Block => try_block(file, at),
         Operation::BlockWatch => try_block_watch(file, at),
+        Operation::Encrypt => try_encrypt(file, at),
+        Operation::Decrypt => try_decrypt(file, at),
         Operation::AesBlock => try_aes_block(file, at),
         Operation::AesBlockWatch => try_aes_block_watch(file, at),
         Operation::Split => try_split(file, at),

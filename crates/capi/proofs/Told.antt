@@ -19,8 +19,9 @@ use Rattle.decomposition.specs.Fit.{FitCall, fitLengths, fitOutcome, allTests, 
 use Rattle.decomposition.specs.Layout.{head, known, layout, paired, recordSize}
 use Rattle.decomposition.specs.Solution.{solvable}
 use Rattle.sbox.specs.Operations as sbox
+use Rattle.cipher.specs.Ciphering as ciphering
 use Rattle.cipher.specs.Operations as cipher
-use Rattle.present.specs.Present.{Size}
+use Rattle.present.specs.Present.{table, Size}
 use Rattle.unshared.specs.Operations.{unsharedLengths, unsharedOutcome}
 use Rattle.aes.specs.Operations as aes
 use Rattle.capi.specs.Words.{words, Told}
@@ -113,29 +114,30 @@ unfolding sbox.watchOutcome sbox.sboxCall
 sbox-watch-told r s shares random list values =
     watch-told (sbox.sboxCall r s shares random) list values (sbox-tests-told r s shares random (listFits (length list) values))
 
-record-told : (r : List ℕ) → Told (cipher.recordTests r)
-unfolding cipher.recordTests
-record-told r =
-    told-then (readOutcome r) (test (eqb (widthOf r) 4) 1 0 (test (cipher.computesTable r) 6 0 (done []))) (read-told r)
+record-told : (t r : List ℕ) → Told (ciphering.recordTests t r)
+unfolding ciphering.recordTests
+record-told t r =
+    told-then (readOutcome r) (test (eqb (widthOf r) 4) 1 0 (test (ciphering.computesTable t r) 6 0 (done []))) (read-told r)
     (told-test (eqb (widthOf r) 4) 1 0 _ (omega arith)
-    (told-test (cipher.computesTable r) 6 0 (done []) (omega arith) tt))
+    (told-test (ciphering.computesTable t r) 6 0 (done []) (omega arith) tt))
 
-block-tests-told : (r : List ℕ) (s : ℕ) (key block random : List ℕ) (fits : Bool) → Told (cipher.callTests r s key block random fits)
-unfolding cipher.callTests cipher.argumentTests
-block-tests-told r s key block random fits =
-    told-then (cipher.recordTests r) (cipher.argumentTests s key block random fits) (record-told r)
-    (told-test (oneTo 9 s) 7 0 _ (omega arith)
-    (told-test (cipher.blockLengths s (length key) (length block) (length random) fits) 2 0 (done []) (omega arith) tt))
+tests-told : (c : ciphering.Ciphering) → Told (c .records) → (key block random : List ℕ) (fits : Bool) → Told (ciphering.callTests c key block random fits)
+unfolding ciphering.callTests ciphering.argumentTests
+tests-told c t key block random fits =
+    told-then (c .records) (ciphering.argumentTests (c .keyBytes) (c .draws) (c .shares) key block random fits) t
+    (told-test (oneTo 9 (c .shares)) 7 0 _ (omega arith)
+    (told-test (ciphering.callLengths (c .keyBytes) (c .draws) (c .shares) (length key) (length block) (length random) fits) 2 0 (done []) (omega arith) tt))
 
 pub block-told : (r : List ℕ) (s : ℕ) (key block random : List ℕ) (out : ℕ) → Told (cipher.blockOutcome r s key block random out)
-unfolding cipher.blockOutcome cipher.blockCall
+unfolding cipher.blockOutcome ciphering.callOf
 block-told r s key block random out =
-    call-told (cipher.blockCall r s key block random) (eqb out (8 * s)) (block-tests-told r s key block random (eqb out (8 * s)))
+    call-told (cipher.blockCall r s key block random) (eqb out (8 * s)) (tests-told (cipher.sealing r s) (record-told table r) key block random (eqb out (8 * s)))
 
 pub block-watch-told : (r : List ℕ) (s : ℕ) (key block random list : List ℕ) (values : ℕ) → Told (cipher.watchOutcome r s key block random list values)
-unfolding cipher.watchOutcome cipher.blockCall
+unfolding cipher.watchOutcome ciphering.callOf
 block-watch-told r s key block random list values =
-    watch-told (cipher.blockCall r s key block random) list values (block-tests-told r s key block random (listFits (length list) values))
+    watch-told (cipher.blockCall r s key block random) list values
+    (tests-told (cipher.sealing r s) (record-told table r) key block random (listFits (length list) values))
 
 pub unshared-told : (z : Size) (key block out : ℕ) → Told (unsharedOutcome z key block out)
 unfolding unsharedOutcome

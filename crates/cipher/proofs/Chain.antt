@@ -11,17 +11,18 @@ use Rattle.refusal.specs.Outcome.{done}
 use Rattle.steps.specs.Tape.{bytesFor}
 use Rattle.steps.specs.Operations.{splitShares}
 use Rattle.steps.proofs.Operations.{join-accepts, split-length, split-accepted, split-joined}
-use Rattle.present.specs.Present.{size80, encrypt}
+use Rattle.present.specs.Present.{table, size80, encrypt}
 use Rattle.steps.specs.Bytes.{fromBytes, toBytes}
 use Rattle.cipher.specs.Figures.{figures, blockDraws}
-use Rattle.cipher.specs.Operations.{recordTests, blockOutcome}
+use Rattle.cipher.specs.Ciphering.{recordTests}
+use Rattle.cipher.specs.Operations.{blockOutcome}
 use Rattle.cipher.specs.Chain.{enciphered, Chained}
 use Rattle.steps.proofs.ShareBytes.{small-split}
 use Rattle.cipher.proofs.Output.{output-length, join-ciphertext}
 use Rattle.cipher.proofs.Settles.{block-accepts}
 
 -- For every record that passes the tests of Block, 1 to 9 shares, every key of 10 bytes and block of 8, all masks and all random elements.
-pub chained : (r : List ℕ) (s : ℕ) → recordTests r ≡ done [] → 0 < s → s ≤ 9
+pub chained : (r : List ℕ) (s : ℕ) → recordTests table r ≡ done [] → 0 < s → s ≤ 9
     → (key block key-masks block-masks random : List ℕ) → length key ≡ 10 → length block ≡ 8
     → length key-masks ≡ (s - 1) * 10 → length block-masks ≡ (s - 1) * 8
     → Small 8 key → Small 8 block → Small 8 key-masks → Small 8 block-masks

@@ -12,15 +12,15 @@ use Rattle.decomposition.specs.Record.{marked, outputsOf, readOutcome}
 use Rattle.decomposition.specs.Check.{firstDifference}
 use Rattle.present.specs.Present.{table}
 use Rattle.cipher.specs.Experiment.{houseCoefficients, houseRecord, oldHouseRecord, PresentRecord}
-use Rattle.cipher.specs.Operations.{computesTable, recordTests}
-use Rattle.cipher.proofs.Calls.{present-record}
+use Rattle.cipher.specs.Ciphering.{computesTable, recordTests}
+use Rattle.cipher.proofs.Records.{present-record}
 
-pub house-passes : recordTests houseRecord ≡ done []
+pub house-passes : recordTests table houseRecord ≡ done []
 unfolding recordTests houseRecord houseCoefficients readOutcome marked outputsOf layout sized termsOf firstLarge firstDifference computesTable form valueOf
     sumOf table products classes flatten exponents combination value
 house-passes = refl
 
-pub old-house-passes : recordTests oldHouseRecord ≡ done []
+pub old-house-passes : recordTests table oldHouseRecord ≡ done []
 unfolding recordTests oldHouseRecord houseCoefficients readOutcome marked outputsOf layout sized termsOf firstLarge firstDifference computesTable form valueOf
     sumOf table products classes flatten exponents combination value
 old-house-passes = refl

@@ -1,8 +1,10 @@
 pub mod Runs
 pub mod Nibbles
+pub mod Records
 pub mod Box
-pub mod Theorems
 pub mod Calls
+pub mod Programs
+pub mod Theorems
 pub mod Output
 pub mod Answers
 pub mod Watched

@@ -12,7 +12,7 @@ use Rattle.steps.specs.Sharing.{share}
 use Rattle.steps.proofs.Program.{for-once}
 use Rattle.steps.proofs.Parts.{ready-first, went-map}
 use Rattle.steps.proofs.StepsAlone.{StepsAlone, alone-return, alone-then, alone-note, alone-for}
-use Rattle.present.specs.Present.{nibble, size80, roundNumber, topNibble}
+use Rattle.present.specs.Present.{nibble, Size, size80, roundNumber, numberNibble, topNibble}
 use Rattle.present.specs.Masked.{noteNibbles, noteShares, recorded, maskedAddRoundKey, maskedPermute, maskedRotate, addRoundNumber, maskedNibble, maskedTopNibbles}
 use Rattle.steps.specs.Sharing.{shareWise, alone}
 
@@ -48,15 +48,17 @@ module _ {tape watch : List ℕ} {n : Counts} {vs : List ℕ} where
   recorded-went m s a b w e = rw (← e) (went-map (λ u. b) w)
 
   -- the round number is added
-  pub number-ready : (r x : ℕ) (a b : List ℕ) → Ready tape watch (addRoundNumber size80 r a) n vs
-      → b ≡ shareWise _⊕_ a (alone (roundNumber size80 r)) → share b 0 ≡ x → Ready tape watch (noteNibbles 0 3 5 x) n vs
+  pub number-ready : (z : Size) (r x : ℕ) (a b : List ℕ) → Ready tape watch (addRoundNumber z r a) n vs
+      → b ≡ shareWise _⊕_ a (alone (roundNumber z r)) → share b 0 ≡ x
+      → Ready tape watch (noteNibbles 0 (numberNibble z) (numberNibble z + 2) x) n vs
   unfolding addRoundNumber _>>_
-  number-ready r x a b y e f = rw (← f, e) (ready-first _ _ y)
+  number-ready z r x a b y e f = rw (← f, e) (ready-first _ _ y)
 
-  pub number-went : (r x : ℕ) (a b : List ℕ) {n′ : Counts} {vs′ : List ℕ} → Went tape watch (noteNibbles 0 3 5 x) n vs tt n′ vs′
-      → b ≡ shareWise _⊕_ a (alone (roundNumber size80 r)) → share b 0 ≡ x → Went tape watch (addRoundNumber size80 r a) n vs b n′ vs′
+  pub number-went : (z : Size) (r x : ℕ) (a b : List ℕ) {n′ : Counts} {vs′ : List ℕ}
+      → Went tape watch (noteNibbles 0 (numberNibble z) (numberNibble z + 2) x) n vs tt n′ vs′
+      → b ≡ shareWise _⊕_ a (alone (roundNumber z r)) → share b 0 ≡ x → Went tape watch (addRoundNumber z r a) n vs b n′ vs′
   unfolding addRoundNumber _>>_
-  number-went r x a b w e f = rw (← e, f) (went-map (λ u. b) w)
+  number-went z r x a b w e f = rw (← e, f) (went-map (λ u. b) w)
 
 -- ---- the linear parts take steps alone
 
@@ -68,21 +70,21 @@ recorded-alone : (m s : ℕ) (a : List ℕ) → StepsAlone (recorded m s a)
 unfolding recorded noteShares
 recorded-alone m s a = alone-then (alone-for 0 s (λ i u. nibbles-alone i 0 m _) tt) alone-return
 
-pub addition-alone : (s : ℕ) (k a : List ℕ) → StepsAlone (maskedAddRoundKey size80 s k a)
+pub addition-alone : (z : Size) (s : ℕ) (k a : List ℕ) → StepsAlone (maskedAddRoundKey z s k a)
 unfolding maskedAddRoundKey
-addition-alone s k a = recorded-alone _ s _
+addition-alone z s k a = recorded-alone _ s _
 
 pub permutation-alone : (s : ℕ) (a : List ℕ) → StepsAlone (maskedPermute s a)
 unfolding maskedPermute
 permutation-alone s a = recorded-alone _ s _
 
-pub rotation-alone : (s : ℕ) (k : List ℕ) → StepsAlone (maskedRotate size80 s k)
+pub rotation-alone : (z : Size) (s : ℕ) (k : List ℕ) → StepsAlone (maskedRotate z s k)
 unfolding maskedRotate
-rotation-alone s k = recorded-alone _ s _
+rotation-alone z s k = recorded-alone _ s _
 
-pub number-alone : (r : ℕ) (k : List ℕ) → StepsAlone (addRoundNumber size80 r k)
+pub number-alone : (z : Size) (r : ℕ) (k : List ℕ) → StepsAlone (addRoundNumber z r k)
 unfolding addRoundNumber
-number-alone r k = alone-then (nibbles-alone _ _ _ _) alone-return
+number-alone z r k = alone-then (nibbles-alone _ _ _ _) alone-return
 
 -- ---- the S-box of the key update is that of its top nibble
 

@@ -1,24 +1,19 @@
 -- What is claimed of a masked block: the records that it takes, the experiment of a watch, and what is chosen.
-use mathlib.Core.Path.{_≡_}
 use mathlib.Core.List.{List, [], _∷_}
 use Prim.Native.Nat.{ℕ}
-use Rattle.refusal.specs.Outcome.{done}
 use Rattle.steps.specs.Program.{Run}
 use Rattle.steps.specs.Shape.{Shape}
 use Rattle.steps.specs.Settled.{string, Inputs}
-use Rattle.decomposition.specs.Record.{coefficientsOf, readOutcome}
-use Rattle.decomposition.specs.Check.{checkOutcome}
 use Rattle.sbox.specs.Shape.{sboxShape}
 use Rattle.sbox.specs.Form.{basisSize}
-use Rattle.present.specs.Present.{table, size80, State}
-use Rattle.present.specs.Experiment as present
-use Rattle.cipher.specs.Box.{recordSbox}
+use Rattle.present.specs.Present.{table, State}
 use Rattle.cipher.specs.Figures.{blockDraws}
+use Rattle.cipher.specs.Ciphering.{RecordOf, experimentOf}
+use Rattle.cipher.specs.Operations.{sealing}
 
--- a record of width 4 that computes PRESENT's table: Read and Check say so
-pub record PresentRecord (r : List ℕ) : Type 0 where
-  pub read : readOutcome r ≡ done (4 ∷ [])
-  pub checked : checkOutcome r table ≡ done []
+-- a record of PRESENT's table
+abbrev pub PresentRecord : List ℕ → Type 0
+PresentRecord = RecordOf table
 
 -- the shape of its S-box
 unfoldable pub boxShape : ℕ → Shape
@@ -26,7 +21,7 @@ boxShape s = sboxShape 4 s (basisSize 4 4)
 
 -- the experiment: shares 1 to s - 1 of the key and of the block are drawn, share 0 of each is the secret plus these, and the block is run
 unfoldable pub experiment : List ℕ → ℕ → State ℕ → Run (List ℕ)
-experiment r s a = present.experiment (recordSbox s (coefficientsOf r)) size80 s a
+experiment r s = experimentOf (sealing r s)
 
 -- the inputs of a call: a key of 10 bytes and a block of 8 in s shares each, and random elements of 4 bits
 abbrev pub blockInputs : ℕ → Inputs

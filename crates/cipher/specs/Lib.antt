@@ -1,6 +1,7 @@
 pub mod Box
 pub mod Rounds
 pub mod Figures
-pub mod Experiment
+pub mod Ciphering
 pub mod Operations
+pub mod Experiment
 pub mod Chain

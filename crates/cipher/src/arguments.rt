@@ -1,11 +1,12 @@
 // The tests that Block and its watch share.
 ghost use mathlib.Core.Path.{_≡_};
 ghost use mathlib.Core.List.{[], _∷_};
-ghost use Prim.Native.Nat.{_<_, _≤_};
+ghost use Prim.Native.Nat.{_-_, _*_, _<_, _≤_};
 ghost use Rattle.refusal.specs.Outcome.{done, refused};
 ghost use Rattle.decomposition.specs.Record.{readOutcome};
-ghost use Rattle.cipher.specs.Operations.{testedReport, recordTests, blockLengths, argumentTests, callTests};
-use crate::figures::draw_count;
+ghost use Rattle.cipher.specs.Ciphering.{Nibbles, recordTests, callLengths, argumentTests, callTests};
+ghost use Rattle.cipher.specs.Operations.{sealing, testedReport};
+use crate::figures::drawn_by;
 use decomposition::CheckAnswer;
 use decomposition::ReadAnswer;
 use decomposition::check;
@@ -33,36 +34,38 @@ impl Tested {
 
 // All tests. `fits` says whether what is lent for output has its length.
 pub fn call_tests(rec: &[u8], s: u32, key: &[u8], block: &[u8], random: &[u8], fits: bool) -> Tested
-    ensures { λ r. ⌜ testedReport r ≡ callTests (now (rec .entry)) s (now (key .entry)) (now (block .entry)) (now (random .entry)) fits ⌝ }
+    ensures { λ r. ⌜ testedReport r ≡ callTests (sealing (now (rec .entry)) s) (now (key .entry)) (now (block .entry)) (now (random .entry)) fits ⌝ }
 {
-    let tested = record_tests(rec);
+    let table = TABLE;
+    let tested = record_tests(&table, rec);
     match tested {
         Tested::Refused { number, place } => Tested::refuse(number, place),
-        Tested::Passed => argument_tests(s, key, block, random, fits),
+        Tested::Passed => argument_tests(527, s, key, block, random, fits),
     }
 }
 
-// The tests of the record.
-fn record_tests(rec: &[u8]) -> Tested
-    ensures { λ r. ⌜ testedReport r ≡ recordTests (now (rec .entry)) ⌝ }
+// The tests of the record of a table.
+fn record_tests(table: &[u8], rec: &[u8]) -> Tested
+    requires { ⌜ Nibbles (now table) ⌝ }
+    ensures { λ r. ⌜ testedReport r ≡ recordTests (now (table .entry)) (now (rec .entry)) ⌝ }
 {
     let answer = read(rec);
     match answer {
         ReadAnswer::Refused { number, place } => Tested::refuse(number, place),
-        ReadAnswer::Done { width } => table_tests(width, rec),
+        ReadAnswer::Done { width } => table_tests(width, table, rec),
     }
 }
 
 // The tests of a record that Read accepts: its width, and the table that it computes.
-fn table_tests(width: u32, rec: &[u8]) -> Tested
+fn table_tests(width: u32, table: &[u8], rec: &[u8]) -> Tested
+    requires { ⌜ Nibbles (now table) ⌝ }
     requires { ⌜ readOutcome (now rec) ≡ done (width ∷ []) ⌝ }
-    ensures { λ r. ⌜ testedReport r ≡ recordTests (now (rec .entry)) ⌝ }
+    ensures { λ r. ⌜ testedReport r ≡ recordTests (now (table .entry)) (now (rec .entry)) ⌝ }
 {
     if width != 4 {
         return Tested::refuse(1, 0);
     }
-    let table = TABLE;
-    let answer = check(rec, &table);
+    let answer = check(rec, table);
     match answer {
         CheckAnswer::Refused {
             number: _,
@@ -72,24 +75,40 @@ fn table_tests(width: u32, rec: &[u8]) -> Tested
     }
 }
 
-// The tests of the arguments.
-fn argument_tests(s: u32, key: &[u8], block: &[u8], random: &[u8], fits: bool) -> Tested
-    ensures { λ r. ⌜ testedReport r ≡ argumentTests s (now (key .entry)) (now (block .entry)) (now (random .entry)) fits ⌝ }
+// The tests of the arguments of so many S-boxes.
+fn argument_tests(
+    boxes: usize,
+    s: u32,
+    key: &[u8],
+    block: &[u8],
+    random: &[u8],
+    fits: bool,
+) -> Tested
+    requires { ⌜ boxes ≤ 1000 ⌝ }
+    ensures { λ r. ⌜ testedReport r
+        ≡ argumentTests 10 (boxes * (s * (s - 1))) s (now (key .entry)) (now (block .entry)) (now (random .entry)) fits ⌝ }
 {
     let count = s as usize;
     if !one_to(9, count) {
         return Tested::refuse(7, 0);
     }
-    if !lengths_fit(count, key.len(), block.len(), random.len(), fits) {
+    if !lengths_fit(boxes, count, key.len(), block.len(), random.len(), fits) {
         return Tested::refuse(2, 0);
     }
     Tested::Passed
 }
 
-// Whether key, block and random bytes, so many, are what so many shares take, and `fits` holds.
-fn lengths_fit(count: usize, key: usize, block: usize, random: usize, fits: bool) -> bool
-    requires { ⌜ (0 < count) × (count ≤ 9) ⌝ }
-    ensures { λ r. ⌜ r ≡ blockLengths count key block random fits ⌝ }
+// Whether key, block and random bytes, so many, are what so many S-boxes on so many shares take, and `fits` holds.
+fn lengths_fit(
+    boxes: usize,
+    count: usize,
+    key: usize,
+    block: usize,
+    random: usize,
+    fits: bool,
+) -> bool
+    requires { ⌜ (boxes ≤ 1000) × (0 < count) × (count ≤ 9) ⌝ }
+    ensures { λ r. ⌜ r ≡ callLengths 10 (boxes * (count * (count - 1))) count key block random fits ⌝ }
 {
     if key != 10 * count {
         return false;
@@ -97,7 +116,7 @@ fn lengths_fit(count: usize, key: usize, block: usize, random: usize, fits: bool
     if block != 8 * count {
         return false;
     }
-    if random != bytes_for(4, draw_count(count)) {
+    if random != bytes_for(4, drawn_by(boxes, count)) {
         return false;
     }
     fits

@@ -4,7 +4,8 @@ ghost use Prim.Native.Nat.{_*_};
 ghost use lib.ListN.{length};
 ghost use Rattle.refusal.specs.Outcome.{done, refused, Answered};
 ghost use Rattle.steps.specs.Call.{callCounts};
-ghost use Rattle.cipher.specs.Operations.{Callable, blockCall, blockReport, blockOutcome, blockOutput};
+ghost use Rattle.cipher.specs.Ciphering.{Callable};
+ghost use Rattle.cipher.specs.Operations.{sealing, blockCall, blockReport, blockOutcome, blockOutput};
 use crate::arguments::Tested;
 use crate::arguments::call_tests;
 use crate::encryption::encrypt;
@@ -65,7 +66,7 @@ fn encipher(
     random: &[u8],
     out: &mut [u8],
 ) -> BlockAnswer
-    requires { ⌜ Callable (now rec) s (now key) (now block) (now random) ⌝ }
+    requires { ⌜ Callable (sealing (now rec) s) (now key) (now block) (now random) ⌝ }
     requires { ⌜ length (now out) ≡ 8 * s ⌝ }
     ensures { λ r. ⌜ Answered (done (callCounts (blockCall (now (rec .entry)) s (now (key .entry)) (now (block .entry)) (now (random .entry)))))
         (blockOutput (now (rec .entry)) s (now (key .entry)) (now (block .entry)) (now (random .entry)))

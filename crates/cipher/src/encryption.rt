@@ -9,7 +9,8 @@ ghost use Rattle.steps.specs.Machine.{zeroCounts, Ready, Went};
 ghost use Rattle.steps.specs.ShareBytes.{sharing, ZeroPast};
 ghost use Rattle.cipher.specs.Box.{recordSbox};
 ghost use Rattle.cipher.specs.Rounds.{Closed, Loaded};
-ghost use Rattle.cipher.specs.Operations.{callProgram};
+ghost use Rattle.cipher.specs.Ciphering.{callProgram};
+ghost use Rattle.cipher.specs.Operations.{sealing};
 use crate::linear_parts::add_round_key;
 use crate::rounds::RoundState;
 use crate::rounds::rounds;
@@ -51,9 +52,9 @@ pub fn encrypt(
     requires { ⌜ (0 < s) × (s ≤ 9) × (recordSize (versionOf (now rec)) (layout 4 4) ≤ length (now rec)) × (length (now key) ≡ 10 * s) × (length (now block) ≡ 8 * s) ⌝ }
     requires { ⌜ Closed s (elements 4 (now random)) (recordSbox s (coefficientsOf (now rec))) ⌝ }
     requires { ⌜ Ready (elements 4 (now random)) (now watch)
-        (callProgram (now rec) s (now key) (now block)) zeroCounts (now values) ⌝ }
+        (callProgram (sealing (now rec) s) (now key) (now block)) zeroCounts (now values) ⌝ }
     ensures { λ r. ⌜ Went (elements 4 (now (random .entry))) (now (watch .entry))
-        (callProgram (now (rec .entry)) s (now (key .entry)) (now (block .entry)))
+        (callProgram (sealing (now (rec .entry)) s) (now (key .entry)) (now (block .entry)))
         zeroCounts (now (values .entry)) (sharing 8 s (r .block)) (r .counts) (now (values .exit)) ⌝ }
     ensures { λ r. ⌜ ZeroPast 8 s (r .block) ⌝ }
 {

@@ -5,7 +5,8 @@ ghost use Rattle.refusal.specs.Outcome.{done, refused, Answered};
 ghost use Rattle.refusal.specs.Watch.{testSteps};
 ghost use Rattle.cipher.specs.Figures.{blockSteps};
 ghost use Rattle.steps.specs.Call.{callCounts};
-ghost use Rattle.cipher.specs.Operations.{Callable, blockCall, watchReport, watchOutcome, watchOutput};
+ghost use Rattle.cipher.specs.Ciphering.{Callable};
+ghost use Rattle.cipher.specs.Operations.{sealing, blockCall, watchReport, watchOutcome, watchOutput};
 use crate::arguments::Tested;
 use crate::arguments::call_tests;
 use crate::encryption::encrypt;
@@ -71,7 +72,7 @@ fn watch(
     list: &[u32],
     values: &mut [u8],
 ) -> WatchAnswer
-    requires { ⌜ Callable (now rec) s (now key) (now block) (now random) ⌝ }
+    requires { ⌜ Callable (sealing (now rec) s) (now key) (now block) (now random) ⌝ }
     requires { ⌜ length (now list) ≡ length (now values) ⌝ }
     ensures { λ r. ⌜ Answered
         (testSteps (blockSteps s) (now (list .entry))

@@ -1,14 +1,14 @@
--- How many steps, draws and masked products a masked block has, over those of the S-box.
+-- How many steps, draws and masked products a masked block has, over those of the S-box, for every key length.
 use mathlib.Core.Path.{_≡_, refl, ap, ap₂, _∙_}
 use mathlib.Core.List.{[], _∷_}
 use Prim.Native.Nat.{ℕ, _+_, _-_, _*_}
-use native.Mathlib.Nat.{sub-zero}
+use native.Mathlib.Nat.{sub-zero, mul-zero, mul-one, mul-comm, add-mul}
 use native.Mathlib.Omega.{arith}
 use lib.ListN.{replicate}
 use Rattle.steps.specs.Program.{one}
 use Rattle.steps.specs.Shape.{stepOf, Shape, touchesOf, bitsOf, stepsOf, drawsOf, productsOf, Counting, Uniform}
 use Rattle.steps.proofs.Shape.{counts-steps, counts-draws, counts-products, counts-for, uniform-append, uniform-for}
-use Rattle.present.specs.Present.{Size, numberNibble, size80}
+use Rattle.present.specs.Present.{Size, numberNibble}
 use Rattle.present.specs.Masked.{nibblesShape, sharesShape, updateShape, roundShape, blockShape}
 
 -- a count that is q for each step of one share
@@ -41,20 +41,28 @@ module _ {f : Shape → ℕ} (c : Counting f) (q : ℕ) (h : (i : ℕ) → f (st
     unfolding blockShape
     counts-block = c .both _ _ ∙ ap₂ _+_ (counts-for c _ 1 32 (λ r. roundShape z s σ) (λ r. counts-round)) (counts-shares 16 s)
 
--- ---- PRESENT-80
+-- ---- the block: 16 S-boxes and those of the key in a round
 
-module _ (s : ℕ) (σ : Shape) where
-  pub block-steps : stepsOf (blockShape size80 s σ) ≡ 31 * (52 * s + 17 * stepsOf σ + 2) + 16 * s
+-- what is counted in the S-boxes alone
+boxes-only : (n b s x : ℕ) → 31 * (s * (16 * 0) + (16 * x + (s * (16 * 0) + (s * (n * 0) + (b * x + 2 * 0))))) + s * (16 * 0) ≡ 31 * ((16 + b) * x)
+boxes-only n b s x = rw (mul-zero n, mul-zero s, add-mul 16 b x) (omega arith)
+
+module _ (z : Size) (s : ℕ) (σ : Shape) where
+  pub block-steps : stepsOf (blockShape z s σ) ≡ 31 * ((32 + z .nibbles) * s + (16 + z .boxes) * stepsOf σ + 2) + 16 * s
   unfolding touchesOf
-  block-steps = counts-block counts-steps 1 (λ i. refl) size80 s σ ∙ omega arith
+  block-steps = counts-block counts-steps 1 (λ i. refl) z s σ ∙ sums (z .nibbles) (z .boxes) s (stepsOf σ)
+    where
+      sums : (n b s x : ℕ) → 31 * (s * (16 * 1) + (16 * x + (s * (16 * 1) + (s * (n * 1) + (b * x + 2 * 1))))) + s * (16 * 1)
+          ≡ 31 * ((32 + n) * s + (16 + b) * x + 2) + 16 * s
+      sums n b s x = rw (mul-one n, add-mul 32 n s, add-mul 16 b x, mul-comm s n) (omega arith)
 
-  pub block-draws : drawsOf (blockShape size80 s σ) ≡ 31 * (17 * drawsOf σ)
+  pub block-draws : drawsOf (blockShape z s σ) ≡ 31 * ((16 + z .boxes) * drawsOf σ)
   unfolding bitsOf
-  block-draws = counts-block counts-draws 0 (λ i. refl) size80 s σ ∙ omega arith
+  block-draws = counts-block counts-draws 0 (λ i. refl) z s σ ∙ boxes-only (z .nibbles) (z .boxes) s (drawsOf σ)
 
-  pub block-products : productsOf (blockShape size80 s σ) ≡ 31 * (17 * productsOf σ)
+  pub block-products : productsOf (blockShape z s σ) ≡ 31 * ((16 + z .boxes) * productsOf σ)
   unfolding productsOf
-  block-products = counts-block counts-products 0 (λ i. refl) size80 s σ ∙ omega arith
+  block-products = counts-block counts-products 0 (λ i. refl) z s σ ∙ boxes-only (z .nibbles) (z .boxes) s (productsOf σ)
 
 -- ---- the draws are of 4 bits if those of the S-box are
 
@@ -79,6 +87,6 @@ module _ (n : ℕ) where
       (uniform-append n _ _ (uniform-for n 0 (z .boxes) (λ j. σ) (λ j. h)) (uniform-nibbles 0 (numberNibble z) (numberNibble z + 2))))))))
       (uniform-shares 16 s)
 
--- the random elements of a block of PRESENT-80, in bits
-pub block-bits : (s : ℕ) (σ : Shape) → Uniform 4 σ → bitsOf (blockShape size80 s σ) ≡ replicate (31 * (17 * drawsOf σ)) 4
-block-bits s σ h = uniform-block 4 size80 s σ h ∙ ap (λ (k : ℕ). replicate k 4) (block-draws s σ)
+-- the random elements of a block, in bits
+pub block-bits : (z : Size) (s : ℕ) (σ : Shape) → Uniform 4 σ → bitsOf (blockShape z s σ) ≡ replicate (31 * ((16 + z .boxes) * drawsOf σ)) 4
+block-bits z s σ h = uniform-block 4 z s σ h ∙ ap (λ (k : ℕ). replicate k 4) (block-draws z s σ)

@@ -68,9 +68,9 @@ module _ (u s : ℕ) (z : Size) (sound : Sound z) where
 -- ---- the rounds
 
 -- keys and blocks that agree but for share u
-record CloseState (z : Size) (u : ℕ) (a b : State (List ℕ)) : Type 0 where
-  key-close : Close (keyBits z) u (a .key) (b .key)
-  block-close : Close 64 u (a .block) (b .block)
+pub record CloseState (z : Size) (u : ℕ) (a b : State (List ℕ)) : Type 0 where
+  pub key-close : Close (keyBits z) u (a .key) (b .key)
+  pub block-close : Close 64 u (a .block) (b .block)
 
 module _ (u : ℕ) (sbox : List ℕ → Run (List ℕ)) (hides : Hides u sbox) (s : ℕ) (z : Size) (sound : Sound z) where
   pub coupled-update : (r : ℕ) → r < 2 ^ 5 → {a b : List ℕ} → Close (keyBits z) u a b

@@ -71,9 +71,9 @@ module _ (s : ℕ) (z : Size) (sound : Sound z) where
 -- ---- the rounds
 
 -- a key and a block, each with its sharing
-record Shared (z : Size) (s : ℕ) (x : State ℕ) (a : State (List ℕ)) : Type 0 where
-  key-shared : Sharing (keyBits z) s (x .key) (a .key)
-  block-shared : Sharing 64 s (x .block) (a .block)
+pub record Shared (z : Size) (s : ℕ) (x : State ℕ) (a : State (List ℕ)) : Type 0 where
+  pub key-shared : Sharing (keyBits z) s (x .key) (a .key)
+  pub block-shared : Sharing 64 s (x .block) (a .block)
 
 module _ (s : ℕ) (σ : Shape) (sbox : List ℕ → Run (List ℕ)) (good : Substitutes substitute s σ sbox) (pos : 0 < s) (z : Size) (sound : Sound z) where
   pub shaped-update : (r : ℕ) → r < 2 ^ 5 → {k : ℕ} {a : List ℕ} → Sharing (keyBits z) s k a

@@ -10,11 +10,12 @@ use Rattle.steps.specs.Bytes.{fromBytes, toBytes}
 use Rattle.steps.specs.Tape.{bytesFor}
 use Rattle.steps.specs.Operations.{joinShares}
 use Rattle.steps.proofs.Bytes.{length-to-bytes, from-bytes-lt, from-to-bytes, to-from-bytes}
-use Rattle.present.specs.Present.{size80, encrypt}
+use Rattle.present.specs.Present.{table, size80, encrypt}
 use Rattle.present.specs.Decrypt.{decrypt}
 use Rattle.present.proofs.Numbers.{sound80}
 use Rattle.present.proofs.Inverse.{encrypt-lt, decrypt-lt, decrypt-encrypt, encrypt-decrypt}
-use Rattle.cipher.specs.Operations.{recordTests, blockOutcome, blockOutput}
+use Rattle.cipher.specs.Ciphering.{recordTests}
+use Rattle.cipher.specs.Operations.{blockOutcome, blockOutput}
 use Rattle.cipher.specs.Figures.{blockDraws}
 use Rattle.cipher.specs.Chain.{enciphered}
 use Rattle.cipher.proofs.Output.{join-ciphertext}
@@ -67,7 +68,7 @@ encrypt-agrees = join-ciphertext
 
 -- So for every key and block, split by any masks, and every string of random bytes: the two split, enciphered in shares and joined are what Encrypt
 -- writes.
-pub split-agrees : (r : List ℕ) (s : ℕ) → recordTests r ≡ done [] → 0 < s → s ≤ 9
+pub split-agrees : (r : List ℕ) (s : ℕ) → recordTests table r ≡ done [] → 0 < s → s ≤ 9
     → (key block key-masks block-masks random : List ℕ) → length key ≡ 10 → length block ≡ 8
     → length key-masks ≡ (s - 1) * 10 → length block-masks ≡ (s - 1) * 8
     → Small 8 key → Small 8 block → Small 8 key-masks → Small 8 block-masks

@@ -5,7 +5,8 @@ use lib.ListN.{length}
 use Rattle.refusal.specs.Range.{oneTo}
 use Rattle.refusal.proofs.Outcome.{test-fails, test-passes}
 use Rattle.refusal.proofs.Range.{one-to-range}
-use Rattle.cipher.specs.Operations.{blockLengths, argumentTests}
+use Prim.Native.Nat.{_-_, _*_}
+use Rattle.cipher.specs.Ciphering.{callLengths, argumentTests}
 use borrow.Author.Needs.{needs}
 use Rattle.cipher.proofs.arguments.argument_tests.Statement.{statement}
 use Rattle.cipher.proofs.arguments.argument_tests.Tie as tie
@@ -19,7 +20,7 @@ share-count : (c : tie.Else1) → oneTo 9 (c .before .before .before .before .be
 share-count c = test-passes (c .before .one-to .ensures) (c .if1 .left)
 
 lengths-fit-requires : tie.Need-lengths-fit-requires
-lengths-fit-requires c κs = one-to-range _ _ (share-count c)
+lengths-fit-requires c κs = let range = one-to-range _ _ (share-count c) in (search needs, range .0, range .1)
 
 returns-2 : tie.Need-returns-2
 unfolding argumentTests
@@ -29,7 +30,7 @@ returns-2 c =
 
 -- the lengths are right
 lengths-right : (c : tie.Else2) → let a = c .before .before .before .before .before .before .before .args in
-    blockLengths (a .s) (length (a .key .now)) (length (a .block .now)) (length (a .random .now)) (a .fits) ≡ true
+    callLengths 10 (a .boxes * (a .s * (a .s - 1))) (a .s) (length (a .key .now)) (length (a .block .now)) (length (a .random .now)) (a .fits) ≡ true
 lengths-right c = test-passes (c .before .lengths-fit .ensures) (c .if2 .left)
 
 returns-3 : tie.Need-returns-3

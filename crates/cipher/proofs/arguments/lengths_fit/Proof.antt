@@ -5,8 +5,8 @@ use lib.Dec.{eqb}
 use borrow.Author.Needs.{needs}
 use borrow.Author.Tests.{eq-eqb, ne-eqb}
 use Rattle.steps.specs.Tape.{bytesFor}
-use Rattle.cipher.specs.Figures.{blockDraws}
-use Rattle.cipher.specs.Operations.{blockLengths}
+use Prim.Native.Nat.{_-_, _*_}
+use Rattle.cipher.specs.Ciphering.{callLengths}
 use Rattle.cipher.proofs.arguments.lengths_fit.Statement.{statement}
 use Rattle.cipher.proofs.arguments.lengths_fit.Tie as tie
 
@@ -14,27 +14,27 @@ mul-if1 : tie.Need-mul-if1
 mul-if1 c = search needs
 
 returns : tie.Need-returns
-unfolding blockLengths
+unfolding callLengths
 returns c = rw (ne-eqb _ _ (c .if1 .taken))
 
 mul-if2 : tie.Need-mul-if2
 mul-if2 c = search needs
 
 returns-2 : tie.Need-returns-2
-unfolding blockLengths
+unfolding callLengths
 returns-2 c = rw (eq-eqb _ _ (c .before .if1 .left), ne-eqb _ _ (c .if2 .taken))
 
-draw-count-requires : tie.Need-draw-count-requires
-draw-count-requires c κs = search needs
+drawn-by-requires : tie.Need-drawn-by-requires
+drawn-by-requires c κs = search needs
 
--- the bytes that the random elements of a block take
-drawn : (c : tie.After-bytes-for) → c .bytes-for .result ≡ bytesFor 4 (blockDraws (c .before .before .before .before .args .count))
-drawn c = c .bytes-for .ensures ∙ ap (bytesFor 4) (c .before .draw-count .ensures)
+-- the bytes that the random elements take
+drawn : (c : tie.After-bytes-for) → let a = c .before .before .before .before .args in c .bytes-for .result ≡ bytesFor 4 (a .boxes * (a .count * (a .count - 1)))
+drawn c = c .bytes-for .ensures ∙ ap (bytesFor 4) (c .before .drawn-by .ensures)
 
 -- the lengths of key and block are right, so it is by that of the random bytes
 by-random : (c : tie.After-bytes-for) → let a = c .before .before .before .before .args in
-    blockLengths (a .count) (a .key) (a .block) (a .random) (a .fits) ≡ (eqb (a .random) (c .bytes-for .result) && a .fits)
-unfolding blockLengths
+    callLengths 10 (a .boxes * (a .count * (a .count - 1))) (a .count) (a .key) (a .block) (a .random) (a .fits) ≡ (eqb (a .random) (c .bytes-for .result) && a .fits)
+unfolding callLengths
 by-random c = rw (eq-eqb _ _ (c .before .before .before .if1 .left), eq-eqb _ _ (c .before .before .if2 .left), drawn c)
 
 returns-3 : tie.Need-returns-3
@@ -51,7 +51,7 @@ lengths-fit-spec =
     returns
     mul-if2
     returns-2
-    draw-count-requires
+    drawn-by-requires
     (λ c κs. search needs)
     returns-3
     returns-4)

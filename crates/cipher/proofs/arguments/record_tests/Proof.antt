@@ -1,7 +1,7 @@
 -- `arguments::record_tests` meets its contract: by what Read answers.
 use mathlib.Core.Path.{sym, ap, _∙_}
 use Rattle.decomposition.specs.Record.{readReport}
-use Rattle.cipher.specs.Operations.{recordTests}
+use Rattle.cipher.specs.Ciphering.{recordTests}
 use borrow.Author.Needs.{needs}
 use Rattle.cipher.proofs.arguments.record_tests.Statement.{statement}
 use Rattle.cipher.proofs.arguments.record_tests.Tie as tie
@@ -16,7 +16,7 @@ enum-known-answer-2 : tie.Need-enum-known-answer-2
 enum-known-answer-2 c = search needs
 
 table-tests-requires : tie.Need-table-tests-requires
-table-tests-requires c κs = sym (c .before .before .before .read .ensures) ∙ ap readReport (c .before .answer2 .given .1)
+table-tests-requires c κs = (search needs, sym (c .before .before .before .read .ensures) ∙ ap readReport (c .before .answer2 .given .1))
 
 returns : tie.Need-returns
 unfolding recordTests

@@ -7,7 +7,8 @@ use lib.Dec.{eqb}
 use lib.ListN.{length}
 use Rattle.refusal.specs.Outcome.{done}
 use Rattle.refusal.proofs.Outcome.{refuses}
-use Rattle.cipher.specs.Operations.{testedReport, callTests, blockOutcome, blockCall}
+use Rattle.cipher.specs.Ciphering.{callTests, callOf}
+use Rattle.cipher.specs.Operations.{sealing, testedReport, blockOutcome}
 use Rattle.steps.specs.Call.{callOutcome}
 use Rattle.cipher.proofs.Calls.{tests-passed}
 use borrow.Author.Needs.{needs}
@@ -19,7 +20,7 @@ mul-fits c = search needs
 
 -- where the tests are passed
 tested : (c : tie.After-enum-told) → let a = c .before .before .before .before .before .before .before .before .args in
-    callTests (a .rec .now) (a .s) (a .key .now) (a .block .now) (a .random .now) (eqb (length (a .out .now)) (8 * a .s)) ≡ done []
+    callTests (sealing (a .rec .now) (a .s)) (a .key .now) (a .block .now) (a .random .now) (eqb (length (a .out .now)) (8 * a .s)) ≡ done []
 tested c = sym (c .before .before .call-tests .ensures) ∙ ap testedReport (c .enum-told .given .1)
 
 enum-known-tested : tie.Need-enum-known-tested
@@ -30,17 +31,17 @@ enum-told c = search needs
 
 encipher-requires : tie.Need-encipher-requires
 encipher-requires c κs =
-    let p = tests-passed _ _ _ _ _ _ (tested (c .before)) in
+    let p = tests-passed _ _ _ _ _ (tested (c .before)) in
     (p .0, eqb-true _ _ (p .1))
 
 returns : tie.Need-returns
-unfolding blockOutcome blockCall callOutcome
+unfolding blockOutcome callOf callOutcome
 returns c =
     let e = sym (c .before .before .before .before .call-tests .ensures) ∙ ap testedReport (c .before .before .tested .given .1) in
     refuses (c .refuse .ensures) (rw e)
 
 returns-2 : tie.Need-returns-2
-unfolding blockOutcome blockCall callOutcome
+unfolding blockOutcome callOf callOutcome
 returns-2 c = rw (tested (c .before .before .before .before)) (c .before .before .encipher .ensures)
 
 pub block-spec : {M : Type 1} → statement M

@@ -4,7 +4,10 @@ use native.Mathlib.Omega.{arith}
 use Rattle.xor.specs.Sum.{Small}
 use Rattle.refusal.proofs.Outcome.{succeeds}
 use Rattle.steps.proofs.Machine.{went-whole}
-use Rattle.cipher.proofs.Calls.{record-room, call-closed, call-ready, call-counts, call-output}
+use Rattle.cipher.specs.Operations.{blockOutput}
+use Rattle.cipher.proofs.Records.{present-record, record-room, record-closed}
+use Rattle.cipher.proofs.Theorems.{sealing-good}
+use Rattle.cipher.proofs.Calls.{good-call, call-ready, call-counts, call-output}
 use borrow.Author.Needs.{needs}
 use Rattle.cipher.proofs.enciphering.encipher.Statement.{statement}
 use Rattle.cipher.proofs.enciphering.encipher.Tie as tie
@@ -21,7 +24,10 @@ encrypt-requires c κs =
     let hk : Small 8 (c .before .before .before .before .before .before .before .args .key .now) = λ j. omega (arith, c .before .before .before .before .before .shared-slice-known2 .given j) in
     let hb : Small 8 (c .before .before .before .before .before .before .before .args .block .now) = λ j. omega (arith, c .before .before .before .before .shared-slice-known3 .given j) in
     let hr : Small 8 (c .before .before .before .before .before .before .before .args .random .now) = λ j. omega (arith, c .before .before .before .shared-slice-known4 .given j) in
-    ((p .some, p .nine, record-room p, p .key-length, p .block-length), (call-closed p hr, call-ready p hk hb hr (search needs)))
+    let r = present-record _ (p .records-pass .1) in (
+      (p .some, p .nine, record-room r, p .key-length, p .block-length),
+      (record-closed r (p .some) (p .nine) _ hr, call-ready (good-call (sealing-good _ _) p) p hk hb hr (search needs)),
+    )
 
 slice-aggregate-store : tie.Need-slice-aggregate-store
 slice-aggregate-store c = search needs
@@ -32,6 +38,7 @@ store-requires c κs =
     (p .1, omega (arith, p .0 .nine, slice-aggregate-store (c .before)))
 
 returns : tie.Need-returns
+unfolding blockOutput
 returns c =
     let p = c .before .before .before .before .before .before .before .before .before .before .before .before .before .before .before .before .before .pre in
     let w = went-whole (c .before .before .before .before .before .before .before .before .before .encrypt .ensures .0) in

@@ -12,7 +12,7 @@ use Rattle.decomposition.proofs.Tests.{head-few, whole-part}
 use Rattle.present.specs.Masked.{maskedEncrypt}
 use Rattle.steps.specs.ShareBytes.{sharing}
 use Rattle.steps.proofs.Past.{zero-kept}
-use Rattle.cipher.specs.Operations.{callProgram}
+use Rattle.cipher.specs.Ciphering.{callProgram}
 use Rattle.cipher.proofs.Runs.{addition-alone}
 use Rattle.cipher.proofs.encryption.encrypt.Statement.{statement}
 use Rattle.cipher.proofs.encryption.encrypt.Tie as tie
@@ -72,7 +72,7 @@ add-round-key-requires c κs =
     let s = start (loaded d) .args .s in
     let l = loaded d .load .ensures in
     let w = rw (l .nothing-taken, l .key-loaded s, l .block-loaded s, rest (loaded d)) at (d .rounds .ensures .0) in
-    (h .0 .1, ready-steps (addition-alone _ _ _) (ready-next _ (h .1 .1) w (omega (arith, d .rounds .kept))))
+    (h .0 .1, ready-steps (addition-alone _ _ _ _) (ready-next _ (h .1 .1) w (omega (arith, d .rounds .kept))))
 
 returns : tie.Need-returns
 unfolding callProgram maskedEncrypt sharing
@@ -82,7 +82,7 @@ returns c =
     let l = loaded d .load .ensures in
     let w = rw (l .nothing-taken, l .key-loaded s, l .block-loaded s, rest (loaded d)) at (d .rounds .ensures .0) in
     let added = c .before .before .before .add-round-key .ensures in (
-      went-then _ w (went-counted (addition-alone _ _ _) (c .with-steps .ensures) (added .0)),
+      went-then _ w (went-counted (addition-alone _ _ _ _) (c .with-steps .ensures) (added .0)),
       zero-kept (d .rounds .ensures .1 .block-zero) (added .1),
     )
 

@@ -1,24 +1,12 @@
 -- `figures::draw_count` meets its contract.
-use mathlib.Core.Path.{refl}
-use native.Mathlib.Omega.{arith}
 use Rattle.cipher.specs.Figures.{blockDraws}
 use borrow.Author.Needs.{needs}
 use Rattle.cipher.proofs.figures.draw_count.Statement.{statement}
 use Rattle.cipher.proofs.figures.draw_count.Tie as tie
-use Rattle.product.proofs.Counts.{few-pairs}
-
-sub-result : tie.Need-sub-result
-sub-result c = search needs
-
-mul-result : tie.Need-mul-result
-mul-result c = omega (arith, few-pairs (c .pre .1))
-
-mul-result-2 : tie.Need-mul-result-2
-mul-result-2 c = omega (arith, few-pairs (c .pre .1))
 
 returns : tie.Need-returns
 unfolding blockDraws
-returns c = refl
+returns c = c .drawn-by .ensures
 
 pub draw-count-spec : {M : Type 1} → statement M
-draw-count-spec = tie.close (tie.spec sub-result mul-result mul-result-2 returns)
+draw-count-spec = tie.close (tie.spec (λ c κs. search needs) returns)

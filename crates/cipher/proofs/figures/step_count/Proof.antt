@@ -2,7 +2,7 @@
 use mathlib.Core.Path.{refl}
 use native.Mathlib.Omega.{arith}
 use Rattle.cipher.specs.Figures.{blockSteps}
-use Rattle.cipher.proofs.Calls.{few-squares}
+use Rattle.cipher.proofs.Theorems.{few-squares}
 use borrow.Author.Needs.{needs}
 use Rattle.cipher.proofs.figures.step_count.Statement.{statement}
 use Rattle.cipher.proofs.figures.step_count.Tie as tie

@@ -1,5 +1,6 @@
 -- `linear_parts::round_number` meets its contract.
 use Rattle.steps.proofs.View.{share-sharing}
+use Rattle.present.specs.Present.{size80}
 use Rattle.cipher.proofs.Runs.{number-ready, number-went}
 use borrow.Author.Needs.{needs}
 use Rattle.cipher.proofs.linear_parts.round_number.Statement.{statement}
@@ -12,7 +13,7 @@ record-nibbles-requires : tie.Need-record-nibbles-requires
 record-nibbles-requires c κs =
     let a = c .before .before .before .before .before .before .before .args in (
       search needs,
-      number-ready (a .r) _ _ _ (c .before .before .before .before .before .before .before .pre .1) (c .before .before .before .add-round-number .ensures .0)
+      number-ready size80 (a .r) _ _ _ (c .before .before .before .before .before .before .before .pre .1) (c .before .before .before .add-round-number .ensures .0)
           (share-sharing 10 (a .s) _ 0 (search needs) (search needs)),
     )
 
@@ -20,7 +21,7 @@ returns : tie.Need-returns
 returns c =
     let a = c .before .before .before .before .before .before .before .before .before .before .args in
     let made = c .before .before .before .before .before .before .add-round-number .ensures in (
-      number-went (a .r) _ _ _ (c .before .before .record-nibbles .ensures) (made .0) (share-sharing 10 (a .s) _ 0 (search needs) (search needs)),
+      number-went size80 (a .r) _ _ _ (c .before .before .record-nibbles .ensures) (made .0) (share-sharing 10 (a .s) _ 0 (search needs) (search needs)),
       made .1,
     )
 

@@ -29,7 +29,7 @@ add-round-key-requires : tie.Need-add-round-key-requires
 unfolding maskedRound
 add-round-key-requires c κs =
     let p = c .before .before .before .before .before .before .before .before .before .before .pre in
-    (p .0 .1, ready-steps (addition-alone _ _ _) (ready-first _ _ (p .1 .1 .0)))
+    (p .0 .1, ready-steps (addition-alone _ _ _ _) (ready-first _ _ (p .1 .1 .0)))
 
 sbox-layer-requires : tie.Need-sbox-layer-requires
 unfolding maskedRound
@@ -37,7 +37,7 @@ sbox-layer-requires c κs =
     let w = c .before .before in
     let p = start (added w) .pre in
     let a = added w .add-round-key in
-    let ready = ready-next _ (p .1 .1 .0) (went-counted (addition-alone _ _ _) (w .with-steps .ensures) (a .ensures .0)) (omega (arith, a .kept)) in
+    let ready = ready-next _ (p .1 .1 .0) (went-counted (addition-alone _ _ _ _) (w .with-steps .ensures) (a .ensures .0)) (omega (arith, a .kept)) in
     ((p .0 .1, p .0 .3), (p .1 .0, ready-first _ _ ready))
 
 permutation-requires : tie.Need-permutation-requires
@@ -47,7 +47,7 @@ permutation-requires c κs =
     let w = counted b in
     let p = start (added w) .pre in
     let a = added w .add-round-key in
-    let ready = ready-next _ (p .1 .1 .0) (went-counted (addition-alone _ _ _) (w .with-steps .ensures) (a .ensures .0)) (omega (arith, a .kept)) in
+    let ready = ready-next _ (p .1 .1 .0) (went-counted (addition-alone _ _ _ _) (w .with-steps .ensures) (a .ensures .0)) (omega (arith, a .kept)) in
     let next = ready-next _ ready (b .sbox-layer .ensures .0) (omega (arith, b .sbox-layer .kept)) in
     (p .0 .1, ready-steps (permutation-alone _ _) (ready-first _ _ next))
 
@@ -60,7 +60,7 @@ update-key-requires c κs =
     let w = counted b in
     let p = start (added w) .pre in
     let a = added w .add-round-key in
-    let ready = ready-next _ (p .1 .1 .0) (went-counted (addition-alone _ _ _) (w .with-steps .ensures) (a .ensures .0)) (omega (arith, a .kept)) in
+    let ready = ready-next _ (p .1 .1 .0) (went-counted (addition-alone _ _ _ _) (w .with-steps .ensures) (a .ensures .0)) (omega (arith, a .kept)) in
     let next = ready-next _ ready (b .sbox-layer .ensures .0) (omega (arith, b .sbox-layer .kept)) in
     let last = ready-next _ next (went-counted (permutation-alone _ _) (v .with-steps2 .ensures) (m .ensures .0)) (omega (arith, m .kept)) in
     (p .0, (p .1 .0, ready-first _ _ last))
@@ -83,7 +83,7 @@ returns c =
     let third = permuted v .permutation .ensures in
     let last = c .before .before .update-key .ensures in
     let zero = start (added w) .pre .1 .1 .1 in (
-      went-then _ (went-counted (addition-alone _ _ _) (w .with-steps .ensures) (first .0))
+      went-then _ (went-counted (addition-alone _ _ _ _) (w .with-steps .ensures) (first .0))
           (went-then _ (second .0)
           (went-then _ (went-counted (permutation-alone _ _) (v .with-steps2 .ensures) (third .0)) (went-map _ (last .0)))),
       record {

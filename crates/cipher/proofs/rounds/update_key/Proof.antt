@@ -24,7 +24,7 @@ start c = c .before .before .before .before .before .before .before
 
 rotation-requires : tie.Need-rotation-requires
 unfolding maskedUpdate
-rotation-requires c κs = (search needs, ready-steps (rotation-alone _ _) (ready-first _ _ (c .before .before .before .before .before .before .pre .1 .1)))
+rotation-requires c κs = (search needs, ready-steps (rotation-alone _ _ _) (ready-first _ _ (c .before .before .before .before .before .before .pre .1 .1)))
 
 sbox-nibble-requires : tie.Need-sbox-nibble-requires
 unfolding maskedUpdate
@@ -32,7 +32,7 @@ sbox-nibble-requires c κs =
     let w = c .before .before in
     let p = start (rotated w) .pre in
     let r = rotated w .rotation in
-    let ready = ready-next _ (p .1 .1) (went-counted (rotation-alone _ _) (w .with-steps .ensures) (r .ensures .0)) (omega (arith, r .kept)) in
+    let ready = ready-next _ (p .1 .1) (went-counted (rotation-alone _ _ _) (w .with-steps .ensures) (r .ensures .0)) (omega (arith, r .kept)) in
     (search needs, (p .1 .0, rw (top-nibble _ _) at (ready-first _ _ ready)))
 
 round-number-requires : tie.Need-round-number-requires
@@ -43,9 +43,9 @@ round-number-requires c κs =
     let p = start (rotated w) .pre in
     let h = p .0 in
     let r = rotated w .rotation in
-    let ready = ready-next _ (p .1 .1) (went-counted (rotation-alone _ _) (w .with-steps .ensures) (r .ensures .0)) (omega (arith, r .kept)) in
+    let ready = ready-next _ (p .1 .1) (went-counted (rotation-alone _ _ _) (w .with-steps .ensures) (r .ensures .0)) (omega (arith, r .kept)) in
     let next = ready-next _ ready (rw (← top-nibble _ _) at (b .sbox-nibble .ensures .0)) (omega (arith, b .sbox-nibble .kept)) in
-    ((h .0, h .1, h .2), ready-steps (number-alone _ _) next)
+    ((h .0, h .1, h .2), ready-steps (number-alone _ _ _) next)
 
 returns : tie.Need-returns
 unfolding maskedUpdate
@@ -54,8 +54,8 @@ returns c =
     let r = rotated w .rotation .ensures in
     let b = boxed c .sbox-nibble .ensures in
     let numbered = c .before .before .before .round-number .ensures in (
-      went-then _ (went-counted (rotation-alone _ _) (w .with-steps .ensures) (r .0))
-          (went-then _ (rw (← top-nibble _ _) at (b .0)) (went-counted (number-alone _ _) (c .with-steps2 .ensures) (numbered .0))),
+      went-then _ (went-counted (rotation-alone _ _ _) (w .with-steps .ensures) (r .0))
+          (went-then _ (rw (← top-nibble _ _) at (b .0)) (went-counted (number-alone _ _ _) (c .with-steps2 .ensures) (numbered .0))),
       kept-then (r .1) (kept-then (b .1) (numbered .1)),
     )
 

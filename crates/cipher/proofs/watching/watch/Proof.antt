@@ -9,7 +9,10 @@ use Rattle.refusal.specs.Large.{firstLarge}
 use Rattle.refusal.proofs.Outcome.{refuses, succeeds}
 use Rattle.steps.proofs.Machine.{went-whole}
 use Rattle.cipher.specs.Figures.{blockSteps}
-use Rattle.cipher.proofs.Calls.{record-room, call-closed, call-ready, call-counts, call-watched}
+use Rattle.cipher.specs.Operations.{watchOutput}
+use Rattle.cipher.proofs.Records.{present-record, record-room, record-closed}
+use Rattle.cipher.proofs.Theorems.{sealing-good}
+use Rattle.cipher.proofs.Calls.{good-call, call-ready, call-counts, call-watched}
 use borrow.Author.Needs.{needs}
 use Rattle.cipher.proofs.watching.watch.Statement.{statement}
 use Rattle.cipher.proofs.watching.watch.Tie as tie
@@ -47,9 +50,16 @@ encrypt-requires c κs =
     let d = c .before .before in
     let p = start d .pre in
     let a = p .0 in
-    ((a .some, a .nine, record-room a, a .key-length, a .block-length), (call-closed a (random-bytes d), call-ready a (key-bytes d) (block-bytes d) (random-bytes d) (p .1)))
+    let r = present-record _ (a .records-pass .1) in (
+      (a .some, a .nine, record-room r, a .key-length, a .block-length),
+      (
+        record-closed r (a .some) (a .nine) _ (random-bytes d),
+        call-ready (good-call (sealing-good _ _) a) a (key-bytes d) (block-bytes d) (random-bytes d) (p .1),
+      ),
+    )
 
 returns-2 : tie.Need-returns-2
+unfolding watchOutput
 returns-2 c =
     let d = c .before .before .before .before .before .before .before in
     let a = start d .args in
@@ -57,7 +67,7 @@ returns-2 c =
     let h : length (a .list .now) ≤ firstLarge (blockSteps (a .s)) (a .list .now) = omega (arith, past d, c .before .before .before .before .before .before .if1 .left) in
     let w = c .before .before .before .before .encrypt .ensures .0 in
     succeeds (rw (le-leb _ _ h, call-counts (p .0) (went-whole w), ← (c .bytes-for .ensures)))
-    (call-watched (p .0) (key-bytes d) (block-bytes d) (random-bytes d) (p .1) h w)
+    (call-watched (good-call (sealing-good _ _) (p .0)) (p .0) (key-bytes d) (block-bytes d) (random-bytes d) (p .1) h w)
 
 pub watch-spec : {M : Type 1} → statement M
 watch-spec =

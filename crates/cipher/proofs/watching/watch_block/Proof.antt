@@ -7,7 +7,8 @@ use lib.Dec.{leb, eqb}
 use lib.ListN.{length}
 use Rattle.refusal.specs.Outcome.{done}
 use Rattle.refusal.proofs.Outcome.{refuses}
-use Rattle.cipher.specs.Operations.{testedReport, callTests, watchOutcome, blockCall}
+use Rattle.cipher.specs.Ciphering.{callTests, callOf}
+use Rattle.cipher.specs.Operations.{sealing, testedReport, watchOutcome}
 use Rattle.steps.specs.Call as call
 use Rattle.cipher.proofs.Calls.{tests-passed}
 use borrow.Author.Needs.{needs}
@@ -16,7 +17,7 @@ use Rattle.cipher.proofs.watching.watch_block.Tie as tie
 
 -- where the tests are passed
 tested : (c : tie.After-enum-told) → let a = c .before .before .before .before .before .before .before .before .before .before .args in
-    callTests (a .rec .now) (a .s) (a .key .now) (a .block .now) (a .random .now)
+    callTests (sealing (a .rec .now) (a .s)) (a .key .now) (a .block .now) (a .random .now)
     (eqb (length (a .list .now)) (length (a .values .now)) && leb (length (a .list .now)) 64) ≡ done []
 tested c =
     rw (← (c .before .before .before .list-fits .ensures)) (sym (c .before .before .call-tests .ensures) ∙ ap testedReport (c .enum-told .given .1))
@@ -29,17 +30,17 @@ enum-told c = search needs
 
 watch-requires : tie.Need-watch-requires
 watch-requires c κs =
-    let p = tests-passed _ _ _ _ _ _ (tested (c .before)) in
+    let p = tests-passed _ _ _ _ _ (tested (c .before)) in
     (p .0, eqb-true _ _ (and-eq-true-iff _ _ .0 (p .1) .0))
 
 returns : tie.Need-returns
-unfolding watchOutcome blockCall call.watchOutcome
+unfolding watchOutcome callOf call.watchOutcome
 returns c =
     let e = sym (c .before .before .before .before .call-tests .ensures) ∙ ap testedReport (c .before .before .tested .given .1) in
     refuses (c .refuse .ensures) (rw (← (c .before .before .before .before .before .list-fits .ensures), e))
 
 returns-2 : tie.Need-returns-2
-unfolding watchOutcome blockCall call.watchOutcome
+unfolding watchOutcome callOf call.watchOutcome
 returns-2 c = rw (tested (c .before .before .before .before)) (c .before .before .watch .ensures)
 
 pub watch-block-spec : {M : Type 1} → statement M

@@ -36,7 +36,7 @@ static struct {
     struct sizes z;
     size_t turn;
     uint8_t a[TURNS][SHARES];
-    uint8_t record[RECORD_6], table[ELEMENTS_6], work[WORK_6_4];
+    uint8_t record[RECORD_6], inverse[RECORD_4], table[ELEMENTS_6], work[WORK_6_4];
     uint8_t key[16 * SHARES], block[16 * SHARES], random[400 * SHARES * (SHARES - 1)];
     uint8_t blocks[8 * BLOCKS], out[8 * BLOCKS];
 } in;
@@ -50,6 +50,9 @@ static void prepare(unsigned width, unsigned bits, size_t s)
     in.s = s;
     in.z = sizes_of(width, bits);
     if (width == 4) {
+        for (uint8_t v = 0; v < ELEMENTS_4; v++)
+            in.table[present_sbox[v]] = v;
+        builds[0]->fit(4, 4, in.table, ELEMENTS_4, house_basis, in.z.basis, in.work, in.z.work, in.inverse, in.z.record);
         memcpy(in.table, present_sbox, ELEMENTS_4);
         builds[0]->fit(4, 4, in.table, ELEMENTS_4, house_basis, in.z.basis, in.work, in.z.work, in.record, in.z.record);
     } else if (width == 6)
@@ -90,6 +93,17 @@ static void run_block(const struct plain *by)
         ll_block(in.record, in.z.record, (uint32_t)in.s, in.key, 10 * in.s, in.block, 8 * in.s, in.random, n, in.out, 8 * in.s, answer);
     else
         by->block(in.record, in.z.record, in.s, in.key, 10 * in.s, in.block, 8 * in.s, in.random, n, in.out, 8 * in.s);
+}
+
+static void run_open(const struct plain *by)
+{
+    size_t n = random_bytes(4, 558 * in.s * (in.s - 1));
+    uint64_t answer[4];
+    if (by == NULL)
+        ll_open(in.record, in.z.record, in.inverse, in.z.record, (uint32_t)in.s, in.key, 10 * in.s, in.block, 8 * in.s, in.random, n, in.out,
+            8 * in.s, answer);
+    else
+        by->open(in.record, in.z.record, in.inverse, in.z.record, in.s, in.key, 10 * in.s, in.block, 8 * in.s, in.random, n, in.out, 8 * in.s);
 }
 
 static void run_aes_block(const struct plain *by)
@@ -233,6 +247,10 @@ static const struct operation operations[] = {
     {"masked PRESENT-80", run_block, 4, 4, 3, 1.2},
     {"masked PRESENT-80", run_block, 4, 4, 5, 1.2},
     {"masked PRESENT-80", run_block, 4, 4, 9, 1.2},
+    {"masked opening", run_open, 4, 4, 1, 1.2},
+    {"masked opening", run_open, 4, 4, 3, 1.2},
+    {"masked opening", run_open, 4, 4, 5, 1.2},
+    {"masked opening", run_open, 4, 4, 9, 1.2},
     {"masked AES-128", run_aes_block, 8, 8, 1, 1.2},
     {"masked AES-128", run_aes_block, 8, 8, 3, 1.2},
     {"masked AES-128", run_aes_block, 8, 8, 5, 1.2},

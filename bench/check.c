@@ -140,24 +140,26 @@ static int many_blocks(const struct plain *p)
     return memcmp(again, out, 24) == 0 && memcmp(back, blocks, 24) == 0;
 }
 
-// The vectors again, masked: a key and a block in random shares.
-static int block_vectors(const struct plain *p, size_t s, const uint8_t *record)
+// The vectors again, masked: a key and a block in random shares, sealed and opened.
+static int block_vectors(const struct plain *p, size_t s, const uint8_t *record, const uint8_t *inverse)
 {
-    static uint8_t random[527 * SHARES * (SHARES - 1) / 2];
-    size_t n = random_bytes(4, 527 * s * (s - 1));
+    static uint8_t random[558 * SHARES * (SHARES - 1) / 2];
+    size_t n = random_bytes(4, 527 * s * (s - 1)), m = random_bytes(4, 558 * s * (s - 1));
     for (size_t v = 0; v < 4; v++) {
-        uint8_t key[10 * SHARES], block[8 * SHARES], out[8 * SHARES];
+        uint8_t key[10 * SHARES], block[8 * SHARES], out[8 * SHARES], opened[8 * SHARES];
         fill_below(256, key, 10 * s);
         fill_below(256, block, 8 * s);
-        fill_below(256, random, n);
+        fill_below(256, random, m);
         for (size_t i = 0; i < 10; i++)
             key[i] ^= join(key + i, s, 10) ^ vectors[v].key;
         for (size_t i = 0; i < 8; i++)
             block[i] ^= join(block + i, s, 8) ^ vectors[v].block;
         if (p->block(record, RECORD_4, s, key, 10 * s, block, 8 * s, random, n, out, 8 * s) != 0)
             return 0;
+        if (p->open(record, RECORD_4, inverse, RECORD_4, s, key, 10 * s, out, 8 * s, random, m, opened, 8 * s) != 0)
+            return 0;
         for (size_t i = 0; i < 8; i++)
-            if (join(out + i, s, 8) != vectors[v].sealed[i])
+            if (join(out + i, s, 8) != vectors[v].sealed[i] || join(opened + i, s, 8) != vectors[v].block)
                 return 0;
     }
     return 1;
@@ -190,13 +192,17 @@ static int aes_vector(const struct plain *p, size_t s)
 
 const char *check_plain(const struct plain *p)
 {
-    uint8_t record_4[RECORD_4], given[RECORD_6], record_6[RECORD_6], table_6[ELEMENTS_6], record_6_4[RECORD_6_4], table_6_4[ELEMENTS_6];
+    uint8_t record_4[RECORD_4], inverse_4[RECORD_4], inverse_sbox[ELEMENTS_4], given[RECORD_6], record_6[RECORD_6], table_6[ELEMENTS_6];
+    uint8_t record_6_4[RECORD_6_4], table_6_4[ELEMENTS_6];
     if (!field_examples(p))
         return "products of the field";
     if (!product_example(p))
         return "the worked masked product";
+    for (uint8_t v = 0; v < ELEMENTS_4; v++)
+        inverse_sbox[present_sbox[v]] = v;
     fill_record_6(p, 6, given, table_6);
-    if (!zero_basis(p) || !fits(p, 4, 4, present_sbox, house_basis, record_4) || !fits(p, 6, 6, table_6, given + HEAD, record_6))
+    if (!zero_basis(p) || !fits(p, 4, 4, present_sbox, house_basis, record_4) || !fits(p, 4, 4, inverse_sbox, house_basis, inverse_4)
+        || !fits(p, 6, 6, table_6, given + HEAD, record_6))
         return "Fit";
     fill_record_6(p, 4, given, table_6_4);
     if (!zero_basis_6_4(p) || !pairs_tested(p) || !fits(p, 6, 4, table_6_4, given + HEAD, record_6_4))
@@ -211,7 +217,7 @@ const char *check_plain(const struct plain *p)
         if (!sbox_joins(p, 4, 4, s, record_4, present_sbox) || !sbox_joins(p, 6, 6, s, record_6, table_6)
             || !sbox_joins(p, 6, 4, s, record_6_4, table_6_4))
             return "the joined masked S-box";
-        if (!block_vectors(p, s, record_4))
+        if (!block_vectors(p, s, record_4, inverse_4))
             return "the vectors of masked PRESENT-80";
         if (!aes_vector(p, s))
             return "the vector of AES-128";

@@ -264,6 +264,12 @@ INLINE key_register rotate(key_register k)
     return (key_register){k.high >> 19 | (uint64_t)k.low << 45 | k.high << 61, (uint16_t)(k.high >> 3)};
 }
 
+// And back: left by 19.
+INLINE key_register unrotate(key_register k)
+{
+    return (key_register){k.high << 19 | (uint64_t)k.low << 3 | k.high >> 61, (uint16_t)(k.high >> 45)};
+}
+
 // The round number is added to bits 19 to 15.
 INLINE key_register add_round_number(key_register k, unsigned round)
 {
@@ -343,6 +349,7 @@ static void plain_present_blocks(const uint8_t *restrict key, size_t n, const ui
 
 // ---- PRESENT-80 without masking, by tables: what each byte becomes at its place
 
+static const element inverse_table[ELEMENTS_4] = {5, 14, 15, 8, 12, 1, 2, 13, 11, 4, 6, 3, 0, 7, 9, 10};
 static uint64_t encryption[8][256], decryption[8][256];
 
 // The bits at the places of the mask exchanged with those k places higher.
@@ -362,9 +369,6 @@ INLINE uint64_t unpermute(uint64_t x)
 
 __attribute__((constructor)) static void make_tables(void)
 {
-    uint8_t inverse_table[ELEMENTS_4];
-    for (uint8_t v = 0; v < ELEMENTS_4; v++)
-        inverse_table[present_table[v]] = v;
     for (unsigned j = 0; j < 8; j++)
         for (unsigned v = 0; v < 256; v++) {
             encryption[j][v] = permute((uint64_t)(present_table[v / 16] << 4 | present_table[v % 16]) << 8 * j);
@@ -455,25 +459,58 @@ static element form_at(const uint8_t *polynomial, element x)
     return mul(4, value[0], value[1]) ^ value[2];
 }
 
-static int is_present(const uint8_t *polynomial)
+static int computes(const uint8_t *polynomial, const element *table)
 {
     for (unsigned x = 0; x < ELEMENTS_4; x++)
-        if (form_at(polynomial, (element)x) != present_table[x])
+        if (form_at(polynomial, (element)x) != table[x])
             return 0;
     return 1;
+}
+
+// The tests of a record of a table.
+static refusal record_of(const uint8_t *record, size_t record_len, const element *table, struct reading *in)
+{
+    refusal r = read_record(record, record_len, in);
+    if (r != 0)
+        return r;
+    if (in->width != 4)
+        return 1;
+    return computes(in->coefficients, table) ? 0 : 6;
+}
+
+// The S-box on the 16 nibbles of a block.
+INLINE size_t box_layer(const uint8_t *coefficients, size_t s, uint64_t *state, const uint8_t *random, size_t next)
+{
+    element x[SHARES], y[SHARES];
+    for (unsigned m = 0; m < 16; m++) {
+        for (size_t i = 0; i < s; i++)
+            x[i] = state[i] >> 4 * m & 15;
+        next = substitute_4(coefficients, s, x, random, next, y);
+        for (size_t i = 0; i < s; i++)
+            state[i] = with_nibble(state[i], m, y[i]);
+    }
+    return next;
+}
+
+// The S-box on the top nibble of a key.
+INLINE size_t box_key(const uint8_t *coefficients, size_t s, key_register *keys, const uint8_t *random, size_t next)
+{
+    element x[SHARES], y[SHARES];
+    for (size_t i = 0; i < s; i++)
+        x[i] = (element)(keys[i].high >> 60);
+    next = substitute_4(coefficients, s, x, random, next, y);
+    for (size_t i = 0; i < s; i++)
+        keys[i].high = with_nibble(keys[i].high, 15, y[i]);
+    return next;
 }
 
 static refusal plain_block(const uint8_t *record, size_t record_len, size_t s, const uint8_t *key, size_t key_len,
     const uint8_t *block, size_t block_len, const uint8_t *random, size_t random_len, uint8_t *out, size_t out_len)
 {
     struct reading in;
-    refusal r = read_record(record, record_len, &in);
+    refusal r = record_of(record, record_len, present_table, &in);
     if (r != 0)
         return r;
-    if (in.width != 4)
-        return 1;
-    if (!is_present(in.coefficients))
-        return 6;
     if (s < 1 || s > SHARES)
         return 7;
     if (key_len != 10 * s || block_len != 8 * s || random_len != bytes_for(4, 527 * s * (s - 1)) || out_len != 8 * s)
@@ -481,7 +518,6 @@ static refusal plain_block(const uint8_t *record, size_t record_len, size_t s, c
 
     uint64_t state[SHARES];
     key_register keys[SHARES];
-    element x[SHARES], y[SHARES];
     size_t next = 0;
     for (size_t i = 0; i < s; i++) {
         state[i] = load(block + 8 * i);
@@ -490,26 +526,62 @@ static refusal plain_block(const uint8_t *record, size_t record_len, size_t s, c
     for (unsigned round = 1; round <= 31; round++) {
         for (size_t i = 0; i < s; i++)
             state[i] ^= keys[i].high;
-        for (unsigned m = 0; m < 16; m++) {
-            for (size_t i = 0; i < s; i++)
-                x[i] = state[i] >> 4 * m & 15;
-            next = substitute_4(in.coefficients, s, x, random, next, y);
-            for (size_t i = 0; i < s; i++)
-                state[i] = with_nibble(state[i], m, y[i]);
-        }
+        next = box_layer(in.coefficients, s, state, random, next);
         for (size_t i = 0; i < s; i++)
             state[i] = permute(state[i]);
-        for (size_t i = 0; i < s; i++) {
-            keys[i] = rotate(keys[i]);
-            x[i] = (element)(keys[i].high >> 60);
-        }
-        next = substitute_4(in.coefficients, s, x, random, next, y);
         for (size_t i = 0; i < s; i++)
-            keys[i].high = with_nibble(keys[i].high, 15, y[i]);
+            keys[i] = rotate(keys[i]);
+        next = box_key(in.coefficients, s, keys, random, next);
         keys[0] = add_round_number(keys[0], round);
     }
     for (size_t i = 0; i < s; i++)
         store(out + 8 * i, state[i] ^ keys[i].high);
+    return 0;
+}
+
+static refusal plain_open(const uint8_t *record, size_t record_len, const uint8_t *inverse, size_t inverse_len, size_t s,
+    const uint8_t *key, size_t key_len, const uint8_t *block, size_t block_len, const uint8_t *random, size_t random_len,
+    uint8_t *out, size_t out_len)
+{
+    struct reading in, back;
+    refusal r = record_of(record, record_len, present_table, &in);
+    if (r == 0)
+        r = record_of(inverse, inverse_len, inverse_table, &back);
+    if (r != 0)
+        return r;
+    if (s < 1 || s > SHARES)
+        return 7;
+    if (key_len != 10 * s || block_len != 8 * s || random_len != bytes_for(4, 558 * s * (s - 1)) || out_len != 8 * s)
+        return 2;
+
+    uint64_t state[SHARES];
+    key_register keys[SHARES];
+    size_t next = 0;
+    for (size_t i = 0; i < s; i++) {
+        state[i] = load(block + 8 * i);
+        keys[i] = load_key(key + 10 * i);
+    }
+    for (unsigned round = 1; round <= 31; round++) {
+        for (size_t i = 0; i < s; i++)
+            keys[i] = rotate(keys[i]);
+        next = box_key(in.coefficients, s, keys, random, next);
+        keys[0] = add_round_number(keys[0], round);
+    }
+    for (size_t i = 0; i < s; i++)
+        state[i] ^= keys[i].high;
+    for (unsigned round = 31; round >= 1; round--) {
+        for (size_t i = 0; i < s; i++)
+            state[i] = unpermute(state[i]);
+        next = box_layer(back.coefficients, s, state, random, next);
+        keys[0] = add_round_number(keys[0], round);
+        next = box_key(back.coefficients, s, keys, random, next);
+        for (size_t i = 0; i < s; i++) {
+            keys[i] = unrotate(keys[i]);
+            state[i] ^= keys[i].high;
+        }
+    }
+    for (size_t i = 0; i < s; i++)
+        store(out + 8 * i, state[i]);
     return 0;
 }
 
@@ -883,4 +955,4 @@ static refusal plain_fit(unsigned width, unsigned bits, const uint8_t *table, si
 }
 
 const struct plain PLAIN = {NAME, plain_product, plain_sbox, plain_block, plain_aes_block, plain_fit, plain_present, plain_standard, plain_aes,
-    plain_encrypt, plain_decrypt, plain_present_blocks, plain_encrypt_blocks, plain_decrypt_blocks};
+    plain_encrypt, plain_decrypt, plain_present_blocks, plain_encrypt_blocks, plain_decrypt_blocks, plain_open};

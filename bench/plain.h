@@ -57,6 +57,10 @@ struct plain {
     void (*present_blocks)(const uint8_t *key, size_t n, const uint8_t *blocks, uint8_t *out);
     void (*encrypt_blocks)(const uint8_t *key, size_t n, const uint8_t *blocks, uint8_t *out);
     void (*decrypt_blocks)(const uint8_t *key, size_t n, const uint8_t *blocks, uint8_t *out);
+
+    // Masked decryption of one block of PRESENT-80, by a record of the table and one of the inverse table.
+    refusal (*open)(const uint8_t *record, size_t record_len, const uint8_t *inverse, size_t inverse_len, size_t s, const uint8_t *key,
+        size_t key_len, const uint8_t *block, size_t block_len, const uint8_t *random, size_t random_len, uint8_t *out, size_t out_len);
 };
 
 #endif

@@ -9,9 +9,9 @@
 // The answer. Each call writes all four words:
 //   answer[0]  0 for done, else the number of the refusal
 //   answer[1]  after a refusal its place, 0 unless one is named below; after done the width (ll_read),
-//              or how many products were taken (ll_sbox, ll_block, ll_aes_block and their watches)
-//   answer[2]  after done how many random bytes were taken (the same six)
-//   answer[3]  after done how many steps were taken (the same six)
+//              or how many products were taken (ll_sbox, ll_block, ll_open, ll_aes_block and their watches)
+//   answer[2]  after done how many random bytes were taken (the same eight)
+//   answer[3]  after done how many steps were taken (the same eight)
 // A word not in use is 0.
 //
 // Refusals. Each function lists its tests in the order in which they run; the first that fails is the answer, and nothing else is
@@ -103,6 +103,21 @@ void ll_block(const uint8_t *record, size_t record_len, uint32_t s, const uint8_
 void ll_block_watch(const uint8_t *record, size_t record_len, uint32_t s, const uint8_t *key_shares, size_t key_shares_len,
     const uint8_t *block_shares, size_t block_shares_len, const uint8_t *random, size_t random_len,
     const uint32_t *list, size_t list_len, uint8_t *values, size_t values_len, uint64_t answer[4]);
+
+// Open: masked decryption of PRESENT-80, of one block. The second record is of the inverse table. Key shares have 10s bytes, block shares
+// and out 8s, random 279s(s-1), two elements each, the high nibble drawn first. Hands back products, random bytes and steps.
+// Refuses: the first record as ll_block; then the second by the same rules, 6 not the inverse table (a refusal does not say which record);
+// 7 s not 1 to 9; 2 any length wrong.
+void ll_open(const uint8_t *record, size_t record_len, const uint8_t *inverse_record, size_t inverse_record_len, uint32_t s,
+    const uint8_t *key_shares, size_t key_shares_len, const uint8_t *block_shares, size_t block_shares_len,
+    const uint8_t *random, size_t random_len, uint8_t *out, size_t out_len, uint64_t answer[4]);
+
+// Watch open: as ll_open, with list and values as in ll_sbox_watch.
+// Refuses: as ll_open, with 2 also for a list over 64 numbers or values of another length; last, 8 as in ll_sbox_watch.
+void ll_open_watch(const uint8_t *record, size_t record_len, const uint8_t *inverse_record, size_t inverse_record_len, uint32_t s,
+    const uint8_t *key_shares, size_t key_shares_len, const uint8_t *block_shares, size_t block_shares_len,
+    const uint8_t *random, size_t random_len, const uint32_t *list, size_t list_len,
+    uint8_t *values, size_t values_len, uint64_t answer[4]);
 
 // Encrypt: PRESENT-80 of one block, by tables. The key has 10 bytes, block and out 8, high byte first. Hands nothing back.
 // ll_encrypt and ll_decrypt are not masked: they are for a place where nobody measures.

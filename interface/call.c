@@ -10,7 +10,7 @@
 #include <string.h>
 #include <sys/mman.h>
 
-enum { PAGE = 4096, ROOM = 10 * PAGE, SLICES = 6, FILL = 0xee };
+enum { PAGE = 4096, ROOM = 10 * PAGE, SLICES = 7, FILL = 0xee };
 
 struct slice {
     const void *entries; // NULL, or what it holds before the call
@@ -46,11 +46,13 @@ static const uint8_t identity_record_6[141] = {'D', 'C', 'P', 0, 2, 6, 6, [122] 
 static const uint8_t low_record[103] = {'D', 'C', 'P', 0, 2, 6, 4, [84] = 1};
 
 // Two of them in version 1, which has no byte for the output bits.
+static const uint8_t inverse_record[35] = {'D', 'C', 'P', 0, 2, 4, 4, 0, 1, 1, 0, 0, 0, 0, 1, 0, //
+    10, 12, 2, 5, 12, 0, 9, 15, 9, 5, 10, 12, 0, 9, 10, 12, 0, 0};
 static const uint8_t present_record_1[34] = {'D', 'C', 'P', 0, 1, 4, 0, 1, 1, 0, 0, 0, 0, 1, 0, //
     12, 3, 3, 13, 7, 0, 4, 14, 14, 12, 1, 8, 13, 3, 3, 15, 0, 0};
 static const uint8_t identity_record_6_1[140] = {'D', 'C', 'P', 0, 1, 6, [121] = 1};
 
-static uint8_t identity_table[65], low_table[65], fill[11009], nibbles[18973], random_bytes[28801], key_masks[128], block_masks[128];
+static uint8_t identity_table[65], low_table[65], fill[11009], nibbles[20089], random_bytes[28801], key_masks[128], block_masks[128];
 
 static void set_up(void)
 {
@@ -694,6 +696,79 @@ static void test_block_watch(void)
     expect(&op, "NULL list", 3, slices, counts, NULL);
 }
 
+// ---- Open
+
+enum { OPEN_PRODUCTS = 1116, OPEN_RANDOM = 1674, OPEN_STEPS = 125722 }; // with three shares
+
+static void open_refusals(const struct operation *op, const struct slice *accepted)
+{
+    wrong_records(op, 3, accepted);
+    wrong_share_counts(op, accepted);
+    wrong_lengths(op, 3, accepted);
+
+    struct slice slices[SLICES];
+    memcpy(slices, accepted, op->slices * sizeof *slices);
+    slices[0] = bytes(identity_record_6, 140);
+    expect(op, "width 6", 3, slices, refused(LL_WIDTH, 0), NULL);
+    slices[0] = accepted[1], slices[1] = accepted[0];
+    expect(op, "the two records exchanged", 3, slices, refused(LL_OTHER_TABLE, 0), NULL);
+    slices[0] = accepted[0];
+    expect(op, "the first record twice", 3, slices, refused(LL_OTHER_TABLE, 0), NULL);
+    slices[1] = bytes(identity_record_6, 140);
+    expect(op, "second record of width 6", 3, slices, refused(LL_WIDTH, 0), NULL);
+}
+
+static void call_open(uint32_t number, void *const *at, const size_t *len, uint64_t *answer)
+{
+    ll_open(at[0], len[0], at[1], len[1], number, at[2], len[2], at[3], len[3], at[4], len[4], at[5], len[5], answer);
+}
+
+static void test_open(void)
+{
+    static const struct operation op = {"ll_open", 6, 1, call_open};
+    const struct answer counts = done(OPEN_PRODUCTS, OPEN_RANDOM, OPEN_STEPS);
+    uint8_t key[31] = {0}, block[25] = {0}, plain[8];
+    struct slice slices[] = {bytes(present_record, 34), bytes(inverse_record, 34), bytes(key, 30), bytes(block, 24), bytes(nibbles, OPEN_RANDOM), space(24)};
+    for (unsigned v = 0; v < 4; v++) {
+        share(vectors[v].key, 10, 3, key_masks, key);
+        share(0, 8, 3, block_masks, block);
+        for (unsigned i = 0; i < 8; i++)
+            block[i] ^= vectors[v].ciphertext[i];
+        memset(plain, vectors[v].block, 8);
+        expect_shared(&op, "published vector in three shares", 3, slices, counts, plain);
+    }
+    open_refusals(&op, slices);
+    struct slice one[] = {slices[0], slices[1], bytes(zeros, 10), bytes(vectors[0].ciphertext, 8), space(0), space(8)};
+    expect(&op, "one share, random empty", 1, one, done(1116, 0, 34178), zeros);
+    one[4] = null();
+    expect(&op, "one share, random NULL", 1, one, done(1116, 0, 34178), zeros);
+}
+
+static void call_open_watch(uint32_t number, void *const *at, const size_t *len, uint64_t *answer)
+{
+    ll_open_watch(at[0], len[0], at[1], len[1], number, at[2], len[2], at[3], len[3], at[4], len[4], at[5], len[5], at[6], len[6], answer);
+}
+
+static void test_open_watch(void)
+{
+    static const struct operation op = {"ll_open_watch", 7, 1, call_open_watch};
+    const struct answer counts = done(OPEN_PRODUCTS, OPEN_RANDOM, OPEN_STEPS);
+    uint8_t key[31] = {0}, block[25] = {0}, values[64];
+    share(0xff, 10, 3, key_masks, key);
+    share(0x00, 8, 3, block_masks, block);
+    // The first steps are the nibbles of share 0 of the key, rotated left by 61: nibble 0 is its bits 19 to 22.
+    const uint32_t list[] = {0, OPEN_STEPS, 0};
+    values[0] = (uint8_t)(key[7] >> 3 & 15);
+    struct slice slices[] = {bytes(present_record, 34), bytes(inverse_record, 34), bytes(key, 30), bytes(block, 24), bytes(nibbles, OPEN_RANDOM), //
+        numbers(list, 1), space(1)};
+    expect(&op, "the first step", 3, slices, counts, values);
+    open_refusals(&op, slices);
+    slices[5] = numbers(list, 2), slices[6] = space(2);
+    expect(&op, "step 125722", 3, slices, refused(LL_NO_STEP, 1), NULL);
+    slices[5] = numbers(list, 0), slices[6] = space(0);
+    expect(&op, "empty list", 3, slices, counts, fill);
+}
+
 // ---- Encrypt and Decrypt
 
 static void call_encrypt(uint32_t number, void *const *at, const size_t *len, uint64_t *answer)
@@ -980,6 +1055,8 @@ int main(void)
     report("ll_sbox_watch", test_sbox_watch);
     report("ll_block", test_block);
     report("ll_block_watch", test_block_watch);
+    report("ll_open", test_open);
+    report("ll_open_watch", test_open_watch);
     report("ll_encrypt", test_encrypt);
     report("ll_decrypt", test_decrypt);
     report("ll_aes_block", test_aes_block);

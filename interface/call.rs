@@ -14,6 +14,10 @@ const PRESENT_RECORD: [u8; 34] = [
     b'D', b'C', b'P', 0, 2, 4, 4, 0, 1, 1, 0, 0, 0, 0, 1, 0, // mark, version, width, output bits, basis
     12, 3, 3, 13, 7, 0, 4, 14, 14, 12, 1, 8, 13, 3, 3, 15, 0, 0,
 ];
+const INVERSE_RECORD: [u8; 34] = [
+    b'D', b'C', b'P', 0, 2, 4, 4, 0, 1, 1, 0, 0, 0, 0, 1, 0, //
+    10, 12, 2, 5, 12, 0, 9, 15, 9, 5, 10, 12, 0, 9, 10, 12, 0, 0,
+];
 
 /// The record of the identity's low bits over a zero basis of width 6.
 fn identity_record(bits: u8) -> Vec<u8> {
@@ -399,6 +403,44 @@ fn block_watch(c: &mut Calls) {
     c.answer("NULL list", answer, BLOCK_COUNTS);
 }
 
+const OPEN_COUNTS: Answer = [0, 1116, 1674, 125722];
+
+fn open(c: &mut Calls) {
+    let random = random_bytes(1674);
+    for (key, block, ciphertext) in VECTORS {
+        let (key, sealed) = (share(&[key; 10], 3), share(&ciphertext.to_be_bytes(), 3));
+        let out = c.fills("vector", 24, OPEN_COUNTS, |out| ll::open(&PRESENT_RECORD, &INVERSE_RECORD, 3, &key, &sealed, &random, out));
+        c.same("vector", add_up(&out, 3), vec![block; 8]);
+    }
+    let (key, block) = (random_bytes(30), random_bytes(24));
+    let sealed = c.fills("sealed", 24, BLOCK_COUNTS, |out| ll::block(&PRESENT_RECORD, 3, &key, &block, &random[..1581], out));
+    let opened = c.fills("opened", 24, OPEN_COUNTS, |out| ll::open(&PRESENT_RECORD, &INVERSE_RECORD, 3, &key, &sealed, &random, out));
+    c.same("opened", add_up(&opened, 3), add_up(&block, 3));
+
+    let with_records = |record: &[u8], inverse: &[u8], out: &mut [u8]| ll::open(record, inverse, 3, &key, &block, &random, out);
+    c.wrong_records(24, |record, out| with_records(record, &INVERSE_RECORD, out));
+    c.refuses("width 6", 24, 1, 0, |out| with_records(&PRESENT_RECORD, &identity_record(6), out));
+    c.refuses("the two exchanged", 24, 6, 0, |out| with_records(&INVERSE_RECORD, &PRESENT_RECORD, out));
+    c.refuses("the first twice", 24, 6, 0, |out| with_records(&PRESENT_RECORD, &PRESENT_RECORD, out));
+    c.wrong_share_counts(24, |s, out| ll::open(&PRESENT_RECORD, &INVERSE_RECORD, s, &key, &block, &random, out));
+    c.wrong_lengths([&PRESENT_RECORD, &INVERSE_RECORD, &key, &block, &random], 24, |[record, inverse, key, block, random], out| {
+        ll::open(record, inverse, 3, key, block, random, out)
+    });
+}
+
+fn open_watch(c: &mut Calls) {
+    let (key, block, random) = (random_bytes(30), random_bytes(24), random_bytes(1674));
+    let watch = |list: &[u32], out: &mut [u8]| ll::open_watch(&PRESENT_RECORD, &INVERSE_RECORD, 3, &key, &block, &random, list, out);
+    // The last 48 steps are the nibbles of the result, share by share.
+    let list: Vec<u32> = (125674..125722).collect();
+    let values = c.fills("48 steps", 48, OPEN_COUNTS, |out| watch(&list, out));
+    let opened = c.fills("opened", 24, OPEN_COUNTS, |out| ll::open(&PRESENT_RECORD, &INVERSE_RECORD, 3, &key, &block, &random, out));
+    c.same("the last steps", values, (0..48).map(|k| nibble(&opened[k / 16 * 8..][..8], k % 16)).collect());
+    c.fills("no steps", 0, OPEN_COUNTS, |out| watch(&[], out));
+    c.refuses("65 steps", 65, 2, 0, |out| watch(&[0; 65], out));
+    c.refuses("step 125722", 3, 8, 1, |out| watch(&[125721, 125722, u32::MAX], out));
+}
+
 fn encrypt(c: &mut Calls) {
     for (key, block, ciphertext) in VECTORS {
         let out = c.fills("vector", 8, done(0, 0, 0), |out| ll::encrypt(&[key; 10], &[block; 8], out));
@@ -557,6 +599,8 @@ fn main() {
     failed += report("ll_sbox_watch", sbox_watch);
     failed += report("ll_block", block);
     failed += report("ll_block_watch", block_watch);
+    failed += report("ll_open", open);
+    failed += report("ll_open_watch", open_watch);
     failed += report("ll_encrypt", encrypt);
     failed += report("ll_decrypt", decrypt);
     failed += report("ll_aes_block", aes_block);

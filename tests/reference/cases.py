@@ -26,15 +26,16 @@ from decomposition import (
 )
 from field import EXPONENTS, PRODUCT, evaluate
 from operations import random_limit, split
-from present import SBOX, vectors
+from present import INVERSE_SBOX, SBOX, encrypt, vectors
 from prng import Prng
-from steps import block_random, block_steps, sbox_random, sbox_steps
+from steps import block_random, block_steps, open_random, open_steps, sbox_random, sbox_steps
 
 # A pair is the width and the output bits; a layout is the pair and the version.
 PAIRS = tuple(PARTS)
 LAYOUTS = tuple((pair, version) for version in (1, 2) for pair in RECORD_LENGTH[version])
 SHARE_COUNTS = range(1, 10)
 PRESENT_TABLE = bytes(SBOX)
+INVERSE_TABLE = bytes(INVERSE_SBOX)
 
 # Refused share counts. Some have a low byte, or low two bytes, that would do.
 WRONG_SHARE_COUNTS = (0, 10, 11, 16, 127, 128, 255, 256, 257, 259, 265, 65535, 65536)
@@ -139,10 +140,10 @@ def twin_record(record, c, d):
     return pack_record((4, 4), q, p1 + p2, version_of(record))
 
 
-def present_records(prng):
+def present_records(prng, table=PRESENT_TABLE):
     """Records of PRESENT's table: from Fit with several bases, and others; both versions."""
-    house = house_record(PRESENT_TABLE)
-    records = [house] + [fitted_record(prng, PRESENT_TABLE) for _ in range(4)]
+    house = house_record(table)
+    records = [house] + [fitted_record(prng, table) for _ in range(4)]
     records += [twin_record(house, 1, 0), twin_record(house, 0, 1), twin_record(house, 9, 14)]
     records.append(twin_record(records[1], 5, 3))
     return [in_version(record, 2 - k % 2) for k, record in enumerate(records)]
@@ -1039,6 +1040,156 @@ def block_watch_cases():
         yield (*inputs, [total - 1, total, total - 1], prng.pattern(3))
 
 
+# ------------------------------------------------------------ Open, its watch
+
+# How many valid openings of each share count, as above.
+OPENINGS = {1: 8, 2: 8, 3: 4, 4: 2, 5: 1, 6: 1, 7: 1, 8: 1, 9: 1}
+WATCHED_OPENINGS = {1: 8, 2: 8, 3: 4, 4: 2, 5: 1, 6: 1, 7: 1, 8: 1, 9: 1}
+
+
+def open_inputs(prng, records, s, key=None, block=None):
+    """Record, inverse record, s, key shares, block shares, random."""
+    key_shares = prng.bytes(10 * s) if key is None else sharing(prng, key, s)
+    block_shares = prng.bytes(8 * s) if block is None else sharing(prng, block, s)
+    return *records, s, key_shares, block_shares, prng.bytes(open_random(s))
+
+
+def record_pairs(prng):
+    return list(zip(present_records(prng), present_records(prng, INVERSE_TABLE)))
+
+
+def open_refused_early(prng, pairs):
+    """Refused before the lengths are tested, so the slices can be short."""
+    house, inverse = pairs[0]
+    short = (1, bytes(10), bytes(8), b"")
+    for damaged in refused_records(prng, house):
+        yield damaged, inverse, *short
+        yield damaged, damaged, *short  # the first record's refusal
+        yield damaged, b"", *short
+    for damaged in refused_records(prng, inverse):
+        yield house, damaged, *short
+        yield house, damaged, 0, b"", b"", b"\xff"  # before 7 and 2
+    wide = random_record(prng, (6, 6), 2)
+    for record in (wide, random_record(prng, (6, 4), 2)):
+        yield record, inverse, *short
+        yield house, record, *short
+        yield record, b"", *short
+    yield inverse, house, *short  # the two exchanged
+    yield house, house, *short
+    yield inverse, inverse, *short
+    yield inverse, wide, *short  # the first's 6 before the second's 1
+    for x in range(16):
+        other = house_record(put(INVERSE_TABLE, x, INVERSE_TABLE[x] ^ 1 << x % 4), 1 + x % 2)
+        yield house, other, *short
+        yield house, other, 10, b"", b"", b"\xff"
+    for s in WRONG_SHARE_COUNTS:
+        low = s % 256
+        if low in (1, 2):
+            yield (house, inverse, s, *open_inputs(prng, pairs[1], low)[3:])
+        yield *pairs[s % 9], s, b"", b"", b""
+
+
+def open_wrong_lengths(prng, pairs):
+    for s in SHARE_COUNTS:
+        short = (*pairs[s % 9], s, prng.bytes(10 * s), prng.bytes(8 * s), b"")
+        for place, length in ((3, 10 * s), (4, 8 * s)):
+            for n in [*one_off(length), 0, length + 10]:
+                yield change_length(prng, short, place, n)
+        yield (*short[:5], b"\xff")
+        yield *short[:3], short[4], short[3], b""
+    for s in (1, 2):
+        good = open_inputs(prng, pairs[1], s)
+        for place in (3, 4, 5):
+            for n in one_off(len(good[place])):
+                yield change_length(prng, good, place, n)
+    three = open_inputs(prng, pairs[0], 3)
+    for n in (1581, 1673, 1675, 3348):  # a block's, one off, one element a byte
+        yield change_length(prng, three, 5, n)
+
+
+def open_cases():
+    prng = Prng(117)
+    pairs = record_pairs(prng)
+    for number, (key, _, ciphertext) in enumerate(vectors()):
+        for s in (1, 2 + number, 6 + number):
+            yield (*open_inputs(prng, pairs[0], s, key, ciphertext), prng.pattern(8 * s))
+    for s, count in OPENINGS.items():
+        for k in range(count):
+            yield (*open_inputs(prng, pairs[(s + 2 * k) % 9], s), prng.pattern(8 * s))
+    for s in (1, 2, 3):  # there and back
+        key, block = prng.bytes(10), prng.bytes(8)
+        yield (*open_inputs(prng, pairs[s], s, key, encrypt(key, block)), prng.pattern(8 * s))
+    for s in (2, 3):  # zeros and largest elements
+        n = open_random(s)
+        yield *pairs[0], s, bytes(10 * s), bytes(8 * s), bytes(n), prng.pattern(8 * s)
+        yield *pairs[0], s, b"\xff" * 10 * s, b"\xff" * 8 * s, b"\xff" * n, prng.pattern(8 * s)
+    for inputs in open_refused_early(prng, pairs):
+        yield (*inputs, prng.pattern(8))
+    for inputs in open_wrong_lengths(prng, pairs):
+        yield (*inputs, prng.pattern(8 * inputs[2]))
+    for s in (1, 2):
+        good = open_inputs(prng, pairs[0], s)
+        for n in (0, 8 * s - 1, 8 * s + 1, 10 * s, 72):
+            yield (*good, prng.pattern(n))
+
+
+def open_parts(s):
+    """The number of the first step of each part of an opening, in order."""
+    box = sbox_steps((4, 4), s)
+    lengths = [20 * s, box, 2] * 31 + [16 * s]
+    lengths += [16 * s, *[box] * 16, 2, box, 20 * s, 16 * s] * 31
+    step = 0
+    for length in lengths:
+        yield step
+        step += length
+
+
+def open_landmarks(prng, s):
+    """First steps of some parts, and the step before each."""
+    parts = list(open_parts(s))
+    chosen = [0, 1, 2, 3, 92, 93, 94, 95, 110, 111, 112, 113, 114, 115]
+    chosen += [prng.below(len(parts)) for _ in range(10)] + [len(parts) - 1]
+    steps = []
+    for part in chosen:
+        steps += [max(parts[part] - 1, 0), parts[part]]
+    return steps + [open_steps(s) - 1]
+
+
+def open_watch_cases():
+    prng = Prng(118)
+    pairs = record_pairs(prng)
+    # The first and the last key update, the key addition, round 31 and round 1, one share.
+    parts = list(open_parts(1))
+    inputs = open_inputs(prng, pairs[5], 1)
+    for start, end in ((0, parts[3]), (parts[90], parts[115]), (parts[-21], open_steps(1))):
+        for steps in windows(start, end):
+            yield (*inputs, steps, prng.pattern(len(steps)))
+    for s, count in WATCHED_OPENINGS.items():
+        lists = watch_lists(prng, open_steps(s), lambda: open_landmarks(prng, s))
+        for k in range(count):
+            steps = next(lists)
+            inputs = open_inputs(prng, pairs[(s + 2 * k) % 9], s)
+            yield (*inputs, steps, prng.pattern(len(steps)))
+    for s in (1, 2):
+        inputs = open_inputs(prng, pairs[0], s)
+        for steps in odd_lists(prng, open_steps(s)):
+            yield (*inputs, steps, prng.pattern(len(steps)))
+    for inputs in open_refused_early(prng, pairs):
+        yield (*inputs, [3, 2, 2], prng.pattern(3))
+    for inputs in open_wrong_lengths(prng, pairs):
+        yield (*inputs, [0, open_steps(1)], prng.pattern(2))
+    one = open_inputs(prng, pairs[0], 1)
+    for listed, lent in watch_wrong_lengths():
+        steps = [prng.below(open_steps(1)) for _ in range(listed)]
+        yield (*one, steps, prng.pattern(lent))
+    yield (*one, [open_steps(1)] * 65, prng.pattern(65))  # 2 before 8
+    for steps in late_lists(prng, open_steps(1)):
+        yield (*one, steps, prng.pattern(len(steps)))
+    for s in (2, 4):
+        total = open_steps(s)
+        yield (*open_inputs(prng, pairs[0], s), [total - 1, total, total - 1], prng.pattern(3))
+
+
 # ------------------------------------------------------- AES block, its watch
 
 # How many valid blocks of each share count, as above.
@@ -1362,6 +1513,8 @@ INPUTS = {
     "sbox_watch": sbox_watch_cases,
     "block": block_cases,
     "block_watch": block_watch_cases,
+    "open": open_cases,
+    "open_watch": open_watch_cases,
     "encrypt": encrypt_cases,
     "decrypt": decrypt_cases,
     "aes_block": aes_block_cases,

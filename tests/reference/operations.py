@@ -26,12 +26,14 @@ from decomposition import (
     read,
     record_wrong,
 )
-from present import SBOX
 from steps import (
     Trace,
     block_random,
     block_steps,
     masked_block,
+    masked_open,
+    open_random,
+    open_steps,
     masked_sbox,
     sbox_random,
     sbox_steps,
@@ -83,20 +85,20 @@ def sbox_watch(record, s, shares, random, steps, values):
 # ---------------------------------------------------------------------- Block
 
 
-def block_record_wrong(record):
+def table_record_wrong(record, table):
     refusal = record_wrong(record)
     if refusal:
         return refusal
     if record[5] != 4:
         return (WRONG_WIDTH, 0)
-    if first_difference(record, SBOX) is not None:
+    if first_difference(record, table) is not None:
         return (OTHER_TABLE, 0)  # no place is named here, unlike in Check
     return None
 
 
 def block_wrong(record, s, key_shares, block_shares, random, more_lengths):
     return (
-        block_record_wrong(record)
+        table_record_wrong(record, present.SBOX)
         or share_count_wrong(s)
         or lengths_differ(
             (key_shares, 10 * s), (block_shares, 8 * s), (random, block_random(s))
@@ -124,6 +126,55 @@ def block_watch(record, s, key_shares, block_shares, random, steps, values):
         return refused(refusal, [values])
     trace = Trace(4, random)
     masked_block(trace, record, s, key_shares, block_shares)
+    return done(trace.counts(), [watched(trace, steps)])
+
+
+# ----------------------------------------------------------------------- Open
+
+
+def open_wrong(record, inverse_record, s, key_shares, block_shares, random, more_lengths):
+    return (
+        table_record_wrong(record, present.SBOX)
+        or table_record_wrong(inverse_record, present.INVERSE_SBOX)
+        or share_count_wrong(s)
+        or lengths_differ(
+            (key_shares, 10 * s), (block_shares, 8 * s), (random, open_random(s))
+        )
+        or more_lengths()
+    )
+
+
+def open_block(record, inverse_record, s, key_shares, block_shares, random, out):
+    refusal = open_wrong(
+        record,
+        inverse_record,
+        s,
+        key_shares,
+        block_shares,
+        random,
+        lambda: lengths_differ((out, 8 * s)),
+    )
+    if refusal:
+        return refused(refusal, [out])
+    trace = Trace(4, random)
+    result = masked_open(trace, record, inverse_record, s, key_shares, block_shares)
+    return done(trace.counts(), [result])
+
+
+def open_watch(record, inverse_record, s, key_shares, block_shares, random, steps, values):
+    refusal = open_wrong(
+        record,
+        inverse_record,
+        s,
+        key_shares,
+        block_shares,
+        random,
+        lambda: list_wrong(steps, values),
+    ) or no_such_step(steps, open_steps(s))
+    if refusal:
+        return refused(refusal, [values])
+    trace = Trace(4, random)
+    masked_open(trace, record, inverse_record, s, key_shares, block_shares)
     return done(trace.counts(), [watched(trace, steps)])
 
 
@@ -253,6 +304,8 @@ OPERATIONS = {
     "sbox_watch": sbox_watch,
     "block": block,
     "block_watch": block_watch,
+    "open": open_block,
+    "open_watch": open_watch,
     "encrypt": encrypt,
     "decrypt": decrypt,
     "aes_block": aes_block,

@@ -43,6 +43,11 @@ def rotate(key):
     return (key << 61 | key >> 19) & (1 << 80) - 1
 
 
+def unrotate(key):
+    """80 bits right by 61."""
+    return (key >> 61 | key << 19) & (1 << 80) - 1
+
+
 def update_key(key, number):
     key = rotate(key)
     key = SBOX[key >> 76] << 76 | key & (1 << 76) - 1

@@ -68,6 +68,8 @@ from operations import (
     fit,
     house_fit,
     join,
+    open_block,
+    open_watch,
     read,
     sbox,
     sbox_watch,
@@ -78,9 +80,13 @@ from steps import (
     Trace,
     block_random,
     block_steps,
+    cut_shares,
     masked_block,
+    masked_open,
     masked_product,
     masked_sbox,
+    open_random,
+    open_steps,
     sbox_random,
     sbox_steps,
 )
@@ -558,6 +564,39 @@ def test_block():
             same("masked is unmasked", joined_block(prng, record, s, key, plain), expected)
 
 
+def joined(shares, s):
+    return add_up(cut_shares(shares, s)).to_bytes(8, "big")
+
+
+def test_open():
+    """The vectors and random blocks opened, the totals, the parts, and which record is refused."""
+    prng = Prng(9)
+    inverse_table = bytes(present.INVERSE_SBOX)
+    house, back = house_record(PRESENT_TABLE), house_record(inverse_table)
+    blocks = list(present.vectors())
+    for _ in range(9):
+        key, plain = prng.bytes(10), prng.bytes(8)
+        blocks.append((key, plain, present.encrypt(key, plain)))
+    for number, (key, plain, ciphertext) in enumerate(blocks):
+        s = 1 + number % 9
+        inputs = sharing(prng, key, s), sharing(prng, ciphertext, s), prng.bytes(open_random(s))
+        answer = open_block(house, back, s, *inputs, bytes(8 * s))
+        same("opened", joined(answer.outputs[0], s), plain)
+        same("counts", answer.values, (1116, 279 * s * (s - 1), open_steps(s)))
+    # The key's way forth is that of sealing, and the block's parts are its parts backwards.
+    trace = Trace(4, prng.bytes(open_random(2)))
+    masked_open(trace, house, back, 2, prng.bytes(20), prng.bytes(16))
+    same("steps", len(trace.values), open_steps(2))
+    update = 2 * 20 + sbox_steps((4, 4), 2) + 2
+    same("round number", trace.touched[update - 2 : update], [(0,), (0,)])
+    short = 1, bytes(10), bytes(8), b"", bytes(8)
+    same("exchanged", open_block(back, house, *short)[:2], (6, (0,)))
+    same("first twice", open_block(house, house, *short)[:2], (6, (0,)))
+    same("second short", open_block(house, back[:5], *short).number, 2)
+    same("last step", open_watch(house, back, *short[:4], [open_steps(1) - 1], b"\xee").number, 0)
+    same("no step", open_watch(house, back, *short[:4], [open_steps(1)], b"\xee").number, 8)
+
+
 def test_unshared():
     """Both ways at the vectors, each undoes the other, and the lengths."""
     prng = Prng(8)
@@ -905,6 +944,8 @@ def test_case_files():
         "house_fit": {0, 2, 3},
         "sbox": {0, 1, 2, 3, 5, 7, 9},
         "sbox_watch": {0, 1, 2, 3, 5, 7, 8, 9},
+        "open": {0, 1, 2, 3, 5, 6, 7, 9},
+        "open_watch": {0, 1, 2, 3, 5, 6, 7, 8, 9},
         "encrypt": {0, 2},
         "decrypt": {0, 2},
         "aes_block": {0, 2, 7},
@@ -938,6 +979,7 @@ TESTS = (
     test_step_rules,
     test_block_totals,
     test_block,
+    test_open,
     test_unshared,
     test_watch,
     test_aes,

@@ -1,4 +1,4 @@
-"""The masked product, the masked S-box and masked PRESENT-80, step by step.
+"""The masked product, the masked S-box and masked PRESENT-80, both ways, step by step.
 
 A sharing is a list of s shares. Every step is recorded: the element it gives
 and the shares it touches.
@@ -6,7 +6,7 @@ and the shares it touches.
 
 from decomposition import unpack_record
 from field import EXPONENTS, PRODUCT
-from present import ROUNDS, permute, rotate
+from present import ROUNDS, permute, rotate, unpermute, unrotate
 
 
 def elements_of(width, random):
@@ -69,6 +69,15 @@ def block_random(s):
 
 def block_steps(s):
     return 31 * (52 * s + 17 * (7 * s * s + 50 * s) + 2) + 16 * s
+
+
+def open_random(s):
+    """Random bytes of one opening."""
+    return bytes_for(4, 558 * s * (s - 1))
+
+
+def open_steps(s):
+    return 31 * (72 * s + 18 * (7 * s * s + 50 * s) + 4) + 16 * s
 
 
 # ------------------------------------------------------------- masked product
@@ -191,14 +200,26 @@ def permute_all(trace, state):
     return record_all(trace, [to_nibbles(permute(from_nibbles(n)), 16) for n in state])
 
 
-def update_key(trace, record, key, number):
-    key = record_all(trace, [to_nibbles(rotate(from_nibbles(n)), 20) for n in key])
-    substitute(trace, record, key, 19)
-    # Bits 19 to 15 of share 0 alone: bit 15 tops nibble 3, the rest is nibble 4.
+def add_number(trace, key, number):
+    """To bits 19 to 15 of share 0 alone, in place: bit 15 tops nibble 3, the rest is nibble 4."""
     key[0] = to_nibbles(from_nibbles(key[0]) ^ number << 15, 20)
     trace.step(key[0][3], (0,))
     trace.step(key[0][4], (0,))
+
+
+def update_key(trace, record, key, number):
+    key = record_all(trace, [to_nibbles(rotate(from_nibbles(n)), 20) for n in key])
+    substitute(trace, record, key, 19)
+    add_number(trace, key, number)
     return key
+
+
+def undo_update(trace, inverse_record, key, number):
+    """The parts of an update undone, from the last to the first."""
+    key = [list(share) for share in key]
+    add_number(trace, key, number)
+    substitute(trace, inverse_record, key, 19)
+    return record_all(trace, [to_nibbles(unrotate(from_nibbles(n)), 20) for n in key])
 
 
 def masked_block(trace, record, s, key_shares, block_shares):
@@ -212,4 +233,20 @@ def masked_block(trace, record, s, key_shares, block_shares):
         state = permute_all(trace, state)
         key = update_key(trace, record, key, number)
     state = add_key(trace, state, key)
+    return b"".join(from_nibbles(share).to_bytes(8, "big") for share in state)
+
+
+def masked_open(trace, record, inverse_record, s, key_shares, block_shares):
+    """The block that was sealed. Shares as in masked_block."""
+    key = [to_nibbles(share, 20) for share in cut_shares(key_shares, s)]
+    state = [to_nibbles(share, 16) for share in cut_shares(block_shares, s)]
+    for number in range(1, ROUNDS + 1):
+        key = update_key(trace, record, key, number)
+    state = add_key(trace, state, key)
+    for number in range(ROUNDS, 0, -1):
+        state = record_all(trace, [to_nibbles(unpermute(from_nibbles(n)), 16) for n in state])
+        for nibble in range(16):
+            substitute(trace, inverse_record, state, nibble)
+        key = undo_update(trace, inverse_record, key, number)
+        state = add_key(trace, state, key)
     return b"".join(from_nibbles(share).to_bytes(8, "big") for share in state)

@@ -21,7 +21,9 @@ use Rattle.decomposition.specs.Solution.{solvable}
 use Rattle.sbox.specs.Operations as sbox
 use Rattle.cipher.specs.Ciphering as ciphering
 use Rattle.cipher.specs.Operations as cipher
+use Rattle.cipher.specs.OpenOperations as opening
 use Rattle.present.specs.Present.{table, Size}
+use Rattle.present.specs.Decrypt.{inverseTable}
 use Rattle.unshared.specs.Operations.{unsharedLengths, unsharedOutcome}
 use Rattle.aes.specs.Operations as aes
 use Rattle.capi.specs.Words.{words, Told}
@@ -138,6 +140,22 @@ unfolding cipher.watchOutcome ciphering.callOf
 block-watch-told r s key block random list values =
     watch-told (cipher.blockCall r s key block random) list values
     (tests-told (cipher.sealing r s) (record-told table r) key block random (listFits (length list) values))
+
+both-told : (r q : List ℕ) → Told (opening.bothTests r q)
+unfolding opening.bothTests
+both-told r q = told-then (ciphering.recordTests table r) (ciphering.recordTests inverseTable q) (record-told table r) (record-told inverseTable q)
+
+pub open-told : (r q : List ℕ) (s : ℕ) (key block random : List ℕ) (out : ℕ) → Told (opening.openOutcome r q s key block random out)
+unfolding opening.openOutcome ciphering.callOf
+open-told r q s key block random out =
+    call-told (opening.openCall r q s key block random) (eqb out (8 * s)) (tests-told (opening.opening r q s) (both-told r q) key block random (eqb out (8 * s)))
+
+pub open-watch-told : (r q : List ℕ) (s : ℕ) (key block random list : List ℕ) (values : ℕ)
+    → Told (opening.watchOpenOutcome r q s key block random list values)
+unfolding opening.watchOpenOutcome ciphering.callOf
+open-watch-told r q s key block random list values =
+    watch-told (opening.openCall r q s key block random) list values
+    (tests-told (opening.opening r q s) (both-told r q) key block random (listFits (length list) values))
 
 pub unshared-told : (z : Size) (key block out : ℕ) → Told (unsharedOutcome z key block out)
 unfolding unsharedOutcome

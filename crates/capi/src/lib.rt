@@ -8,6 +8,7 @@ ghost use Rattle.decomposition.specs.Check.{checkOutcome};
 ghost use Rattle.decomposition.specs.Fit.{fitEnd, houseEnd};
 ghost use Rattle.sbox.specs.Operations.{sboxOutcome, sboxOutput, watchOutcome, watchOutput};
 ghost use Rattle.cipher.specs.Operations.{blockOutcome, blockOutput, watchOutcome as block·watchOutcome, watchOutput as block·watchOutput};
+ghost use Rattle.cipher.specs.OpenOperations.{openOutcome, openOutput, watchOpenOutcome, watchOpenOutput};
 ghost use Rattle.present.specs.Present.{size80};
 ghost use Rattle.unshared.specs.Operations.{unsharedOutcome, encryptOutput, decryptOutput};
 ghost use Rattle.aes.specs.Operations.{blockOutcome as aes·blockOutcome, blockOutput as aes·blockOutput, watchOutcome as aes·watchOutcome, watchOutput as aes·watchOutput};
@@ -15,7 +16,9 @@ ghost use Rattle.capi.specs.Words.{words, Reported, ReportedFit};
 use aes::BlockAnswer as AesBlockAnswer;
 use aes::WatchAnswer as AesWatchAnswer;
 use cipher::BlockAnswer;
+use cipher::OpenAnswer;
 use cipher::WatchAnswer as BlockWatchAnswer;
+use cipher::WatchOpenAnswer;
 use decomposition::CheckAnswer;
 use decomposition::FitAnswer;
 use decomposition::HouseFitAnswer;
@@ -205,6 +208,82 @@ pub extern "C" fn ll_block_watch(
             steps,
         } => { put(answer, 0, products as u64, random as u64, steps as u64) }
         BlockWatchAnswer::Refused { number, place } => {
+            put(answer, number as u64, place as u64, 0, 0)
+        }
+    }
+}
+
+// Open hands back the same.
+#[no_mangle]
+pub extern "C" fn ll_open(
+    record: &[u8],
+    inverse_record: &[u8],
+    s: u32,
+    key_shares: &[u8],
+    block_shares: &[u8],
+    random: &[u8],
+    out: &mut [u8],
+    answer: &mut [u64; 4],
+)
+    ensures { λ u. ⌜ Reported
+        (openOutcome (now («record» .entry)) (now («inverse_record» .entry)) s (now («key_shares» .entry)) (now («block_shares» .entry)) (now (random .entry)) (length (now (out .entry))))
+        (openOutput (now («record» .entry)) (now («inverse_record» .entry)) s (now («key_shares» .entry)) (now («block_shares» .entry)) (now (random .entry)))
+        (now (out .entry)) (now (answer .exit)) (now (out .exit)) ⌝ }
+{
+    let a = cipher::open(
+        record,
+        inverse_record,
+        s,
+        key_shares,
+        block_shares,
+        random,
+        out,
+    );
+    match a {
+        OpenAnswer::Done {
+            products,
+            random,
+            steps,
+        } => { put(answer, 0, products as u64, random as u64, steps as u64) }
+        OpenAnswer::Refused { number, place } => { put(answer, number as u64, place as u64, 0, 0) }
+    }
+}
+
+// Watch open hands back the same.
+#[no_mangle]
+pub extern "C" fn ll_open_watch(
+    record: &[u8],
+    inverse_record: &[u8],
+    s: u32,
+    key_shares: &[u8],
+    block_shares: &[u8],
+    random: &[u8],
+    list: &[u32],
+    values: &mut [u8],
+    answer: &mut [u64; 4],
+)
+    ensures { λ u. ⌜ Reported
+        (watchOpenOutcome (now («record» .entry)) (now («inverse_record» .entry)) s (now («key_shares» .entry)) (now («block_shares» .entry)) (now (random .entry)) (now (list .entry)) (length (now (values .entry))))
+        (watchOpenOutput (now («record» .entry)) (now («inverse_record» .entry)) s (now («key_shares» .entry)) (now («block_shares» .entry)) (now (random .entry)) (now (list .entry)))
+        (now (values .entry)) (now (answer .exit)) (now (values .exit)) ⌝ }
+{
+    let a = cipher::watch_open(
+        record,
+        inverse_record,
+        s,
+        key_shares,
+        block_shares,
+        random,
+        list,
+        values,
+    );
+    match a {
+        WatchOpenAnswer::Done {
+            products,
+            random,
+            steps,
+        } => { put(answer, 0, products as u64, random as u64, steps as u64) }
+        WatchOpenAnswer::Refused { number, place } => {
             put(answer, number as u64, place as u64, 0, 0)
         }
     }

@@ -9,7 +9,7 @@ use lib.ListN.{length}
 use Rattle.xor.specs.Sum.{Small}
 use Rattle.refusal.specs.Outcome.{Outcome, done, test, andThen}
 use Rattle.steps.specs.Alike.{SameLengths}
-use Rattle.steps.specs.Call.{callOutcome, watchOutcome, figuresOf}
+use Rattle.steps.specs.Call.{Call, callOutcome, watchOutcome, figuresOf}
 use Rattle.steps.proofs.Call.{counts-taken, HandsBack, call-answers, call-figures}
 use Rattle.steps.proofs.Call as call
 use Rattle.decomposition.specs.Layout.{layout}
@@ -17,14 +17,18 @@ use Rattle.decomposition.specs.Record.{SameRecord, coefficientsOf, readOutcome,
 use Rattle.decomposition.specs.Check.{firstDifference, formIn}
 use Rattle.decomposition.proofs.Theorems.{same-read}
 use Rattle.present.specs.Present.{table, size80}
+use Rattle.present.specs.Decrypt.{inverseTable}
 use Rattle.present.specs.Masked.{maskedEncrypt}
+use Rattle.present.specs.Opening.{maskedDecrypt}
 use Rattle.cipher.specs.Box.{recordSbox}
-use Rattle.cipher.specs.Figures.{blockProducts, blockDraws, blockSteps, figures}
+use Rattle.cipher.specs.Figures.{blockProducts, blockDraws, blockSteps, figures, openProducts, openDraws, openSteps, openFigures}
 use Rattle.cipher.specs.Ciphering.{Ciphering, computesTable, recordTests, argumentTests, callTests, callOf, figuresFor}
 use Rattle.cipher.specs.Operations as operations
 use Rattle.cipher.specs.Operations.{sealing, blockCall, blockOutcome}
+use Rattle.cipher.specs.OpenOperations.{bothTests, opening, openCall, openOutcome, watchOpenOutcome}
 use Rattle.cipher.proofs.Calls.{tests-passed, Good, good-call, call-takes}
 use Rattle.cipher.proofs.Theorems.{sealing-good}
+use Rattle.cipher.proofs.OpenTheorems.{opening-good}
 
 -- ---- of every operation
 
@@ -84,6 +88,32 @@ module _ (r : List ℕ) (s : ℕ) {key key′ block block′ random random′ : 
   unfolding operations.watchOutcome
   watch-answers = watches-alike (sealing r s) (sealing-good r s) h
 
+-- ---- of Open
+
+-- a call that is done hands back the figures
+pub open-figures : (r q : List ℕ) (s : ℕ) (key block random : List ℕ) (out : ℕ) → Small 8 key → Small 8 block → Small 8 random
+    → {v : List ℕ} → openOutcome r q s key block random out ≡ done v → v ≡ openFigures s
+unfolding openOutcome openFigures figuresFor
+open-figures r q s key block random out hk hb hr e =
+    call-figures (openCall r q s key block random) (counts-figures (opening r q s) (opening-good r q s) key block random hk hb hr) (eqb out (8 * s)) e
+
+-- a watch that is done hands back the same
+pub watch-open-figures : (r q : List ℕ) (s : ℕ) (key block random list : List ℕ) (values : ℕ) → Small 8 key → Small 8 block → Small 8 random
+    → {v : List ℕ} → watchOpenOutcome r q s key block random list values ≡ done v → v ≡ openFigures s
+unfolding watchOpenOutcome openFigures figuresFor
+watch-open-figures r q s key block random list values hk hb hr e =
+    call.watch-figures (openCall r q s key block random) (counts-figures (opening r q s) (opening-good r q s) key block random hk hb hr) list values e
+
+module _ (r q : List ℕ) (s : ℕ) {key key′ block block′ random random′ : List ℕ} (h : SameLengths key key′ block block′ random random′) where
+  pub open-answers : (out : ℕ) → openOutcome r q s key block random out ≡ openOutcome r q s key′ block′ random′ out
+  unfolding openOutcome
+  open-answers out = calls-alike (opening r q s) (opening-good r q s) h (eqb out (8 * s))
+
+  pub watch-open-answers : (list : List ℕ) (values : ℕ)
+      → watchOpenOutcome r q s key block random list values ≡ watchOpenOutcome r q s key′ block′ random′ list values
+  unfolding watchOpenOutcome
+  watch-open-answers = watches-alike (opening r q s) (opening-good r q s) h
+
 -- ---- versions
 
 -- the tests of a table go by what Read answers, the width and the coefficients
@@ -115,3 +145,24 @@ same-call n r r′ e s key block random =
       draws = blockDraws s;
       steps = blockSteps s;
     }
+
+-- and so of both records of an opening
+pub same-open-call : (n : ℕ) (r r′ : List ℕ) → SameRecord n r r′ → (m : ℕ) (q q′ : List ℕ) → SameRecord m q q′ → (s : ℕ) (key block random : List ℕ)
+    → openCall r q s key block random ≡ openCall r′ q′ s key block random
+unfolding bothTests
+same-open-call n r r′ e m q q′ f s key block random =
+    ap₂ (λ (o : Outcome) (cs : List ℕ). made o (recordTests inverseTable q) cs (coefficientsOf q)) (same-tests table n r r′ e) (e .coefficients)
+    ∙ ap₂ (λ (o : Outcome) (cs : List ℕ). made (recordTests table r′) o (coefficientsOf r′) cs) (same-tests inverseTable m q q′ f) (f .coefficients)
+  where
+    -- the call by what the tests of either record come to and the coefficients of either
+    made : Outcome → Outcome → List ℕ → List ℕ → Call
+    made o p cs ds =
+        callOf (record {
+          records = andThen o p;
+          keyBytes = 10;
+          shares = s;
+          program = maskedDecrypt (recordSbox s ds) (recordSbox s cs) size80 s;
+          products = openProducts;
+          draws = openDraws s;
+          steps = openSteps s;
+        }) key block random

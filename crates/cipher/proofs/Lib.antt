@@ -5,7 +5,9 @@ pub mod Box
 pub mod Calls
 pub mod Programs
 pub mod Theorems
+pub mod OpenTheorems
 pub mod Output
+pub mod RoundTrips
 pub mod Answers
 pub mod Watched
 pub mod Settles

@@ -1,5 +1,5 @@
 -- THE BYTES. If an operation answers done, the shares that it writes join to what it computes of what the shares of the key and of the block join to: of
--- Block the PRESENT-80 ciphertext, as numbers, and in the bytes that Join writes.
+-- Block the PRESENT-80 ciphertext, of Open the decrypted block, as numbers, and in the bytes that Join writes.
 use mathlib.Core.Path.{_≡_, sym, ap, ap₂, _∙_}
 use mathlib.Core.Bool.{Bool}
 use mathlib.Core.List.{List}
@@ -23,10 +23,13 @@ use Rattle.steps.proofs.Stored.{shares-of-bytes}
 use Rattle.steps.proofs.ShareBytes.{shares-sharing, bytes-of-small, bytes-of-length, join-number, join-writes}
 use Rattle.steps.proofs.Call.{call-passed}
 use Rattle.present.specs.Present.{size80, encrypt}
+use Rattle.present.specs.Decrypt.{decrypt}
 use Rattle.cipher.specs.Ciphering.{Ciphering, callProgram, callOf, outputOf}
 use Rattle.cipher.specs.Operations.{sealing, blockOutcome, blockOutput}
+use Rattle.cipher.specs.OpenOperations.{opening, openOutcome, openOutput}
 use Rattle.cipher.proofs.Calls.{tests-passed, Good, good-call}
 use Rattle.cipher.proofs.Theorems.{sealing-good}
+use Rattle.cipher.proofs.OpenTheorems.{opening-good}
 
 -- ---- what every operation writes
 
@@ -95,3 +98,30 @@ pub join-ciphertext : (r : List ℕ) (s : ℕ) (key block random : List ℕ) (ou
     ≡ toBytes 8 (encrypt size80 (fromBytes (joinShares 10 s key)) (fromBytes (joinShares 8 s block)))
 unfolding blockOutcome blockOutput
 join-ciphertext r s key block random out = join-written (sealing r s) (sealing-good r s) key block random (eqb out (8 * s))
+
+-- ---- what Open writes
+
+-- the bytes of s shares
+pub open-output-bytes : (r q : List ℕ) (s : ℕ) (key block random : List ℕ) → Small 8 (openOutput r q s key block random)
+unfolding openOutput
+open-output-bytes r q s = written-bytes (opening r q s)
+
+pub open-output-length : (r q : List ℕ) (s : ℕ) (key block random : List ℕ) → length (openOutput r q s key block random) ≡ 8 * s
+unfolding openOutput
+open-output-length r q s = written-length (opening r q s)
+
+-- If Open answers done, what it writes joins to the decrypted block.
+pub open-joins : (r q : List ℕ) (s : ℕ) (key block random : List ℕ) (out : ℕ) → Small 8 key → Small 8 block → Small 8 random
+    → {v : List ℕ} → openOutcome r q s key block random out ≡ done v
+    → join (sharesOf 8 s (openOutput r q s key block random)) ≡ decrypt size80 (join (sharesOf 10 s key)) (join (sharesOf 8 s block))
+unfolding openOutcome openOutput
+open-joins r q s key block random out = written-joins (opening r q s) (opening-good r q s) key block random (eqb out (8 * s))
+
+-- If Open answers done, what Join writes from what it writes are the eight bytes of the decrypted block of what Join writes from the shares of the key and
+-- of the block.
+pub join-opened : (r q : List ℕ) (s : ℕ) (key block random : List ℕ) (out : ℕ) → Small 8 key → Small 8 block → Small 8 random
+    → {v : List ℕ} → openOutcome r q s key block random out ≡ done v
+    → joinShares 8 s (openOutput r q s key block random)
+    ≡ toBytes 8 (decrypt size80 (fromBytes (joinShares 10 s key)) (fromBytes (joinShares 8 s block)))
+unfolding openOutcome openOutput
+join-opened r q s key block random out = join-written (opening r q s) (opening-good r q s) key block random (eqb out (8 * s))

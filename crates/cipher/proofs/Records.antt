@@ -22,8 +22,10 @@ use Rattle.decomposition.proofs.Sizes.{outputs-4}
 use Rattle.sbox.proofs.Record.{accepted-record}
 use Rattle.sbox.proofs.Runs.{result-sharing, result-places}
 use Rattle.present.specs.Present.{table}
+use Rattle.present.specs.Decrypt.{inverseTable}
 use Rattle.cipher.specs.Box.{recordSbox}
 use Rattle.cipher.specs.Rounds.{Closed}
+use Rattle.cipher.specs.OpenOperations.{bothTests}
 use Rattle.cipher.specs.Ciphering.{RecordOf, Nibbles, computesTable, recordTests}
 
 -- ---- the test of the table
@@ -72,6 +74,22 @@ present-record r = record-of table r table-nibbles
 -- a record that Read accepts with width 4 and Check with PRESENT's table passes the tests of Block
 pub present-passes : (r : List ℕ) → RecordOf table r → recordTests table r ≡ done []
 present-passes r = of-passes table r table-nibbles
+
+-- those of the inverse table
+pub inverse-nibbles : Nibbles inverseTable
+unfolding inverseTable firstLarge
+inverse-nibbles = (refl, refl)
+
+-- two records that pass the tests of an opening, and that they pass
+pub both-records : (r q : List ℕ) {numbers : List ℕ} → bothTests r q ≡ done numbers → RecordOf table r × RecordOf inverseTable q
+unfolding bothTests
+both-records r q e =
+    let a = then-passed (recordTests table r) _ e in
+    (present-record r (a .1), record-of inverseTable q inverse-nibbles (a .2))
+
+pub both-pass : (r q : List ℕ) → RecordOf table r → RecordOf inverseTable q → bothTests r q ≡ done []
+unfolding bothTests
+both-pass r q h k = rw (present-passes r h, of-passes inverseTable q inverse-nibbles k) refl
 
 -- ---- what the code asks
 

@@ -1,7 +1,7 @@
 -- What the parts of a round come to on the machine.
 use mathlib.Core.Path.{_≡_}
 use mathlib.Core.List.{List}
-use Prim.Native.Nat.{ℕ, _+_, _^_, _<_}
+use Prim.Native.Nat.{ℕ, _+_, _-_, _^_, _<_}
 use lib.ListN.{length}
 use Rattle.xor.specs.Xor.{_⊕_}
 use Rattle.steps.specs.declared.counts.Counts.{Counts}
@@ -14,6 +14,7 @@ use Rattle.steps.proofs.Parts.{ready-first, went-map}
 use Rattle.steps.proofs.StepsAlone.{StepsAlone, alone-return, alone-then, alone-note, alone-for}
 use Rattle.present.specs.Present.{nibble, Size, size80, roundNumber, numberNibble, topNibble}
 use Rattle.present.specs.Masked.{noteNibbles, noteShares, recorded, maskedAddRoundKey, maskedPermute, maskedRotate, addRoundNumber, maskedNibble, maskedTopNibbles}
+use Rattle.present.specs.Opening.{maskedUnpermute, maskedUnrotate, maskedBackTopNibbles}
 use Rattle.steps.specs.Sharing.{shareWise, alone}
 
 -- ---- recording
@@ -82,6 +83,14 @@ pub rotation-alone : (z : Size) (s : ℕ) (k : List ℕ) → StepsAlone (maskedR
 unfolding maskedRotate
 rotation-alone z s k = recorded-alone _ s _
 
+pub unpermutation-alone : (s : ℕ) (a : List ℕ) → StepsAlone (maskedUnpermute s a)
+unfolding maskedUnpermute
+unpermutation-alone s a = recorded-alone _ s _
+
+pub unrotation-alone : (z : Size) (s : ℕ) (k : List ℕ) → StepsAlone (maskedUnrotate z s k)
+unfolding maskedUnrotate
+unrotation-alone z s k = recorded-alone _ s _
+
 pub number-alone : (z : Size) (r : ℕ) (k : List ℕ) → StepsAlone (addRoundNumber z r k)
 unfolding addRoundNumber
 number-alone z r k = alone-then (nibbles-alone _ _ _ _) alone-return
@@ -91,3 +100,7 @@ number-alone z r k = alone-then (nibbles-alone _ _ _ _) alone-return
 pub top-nibble : (box : List ℕ → Run (List ℕ)) (a : List ℕ) → maskedTopNibbles box size80 a ≡ maskedNibble box 19 a
 unfolding maskedTopNibbles
 top-nibble box a = for-once 0 (λ j. maskedNibble box (topNibble size80 j)) a
+
+pub back-top-nibble : (box : List ℕ → Run (List ℕ)) (a : List ℕ) → maskedBackTopNibbles box size80 a ≡ maskedNibble box 19 a
+unfolding maskedBackTopNibbles
+back-top-nibble box a = for-once 0 (λ j. maskedNibble box (topNibble size80 (0 + 1 - 1 - j))) a

@@ -20,13 +20,15 @@ use Rattle.steps.proofs.Settled.{lent-nil, lent-cons, lent-first, lent-rest, se
 use Rattle.steps.proofs.Call.{HandsBack}
 use Rattle.steps.proofs.Call as call
 use Rattle.present.specs.Present.{table}
-use Rattle.cipher.specs.Figures.{figures, blockDraws, blockSteps}
+use Rattle.cipher.specs.Figures.{figures, blockDraws, blockSteps, openFigures, openDraws, openSteps}
 use Rattle.cipher.specs.Ciphering.{Ciphering, recordTests, argumentTests, callTests, callOf, figuresFor, inputsOf}
-use Rattle.cipher.specs.Experiment.{blockInputs}
+use Rattle.cipher.specs.Experiment.{blockInputs, openInputs}
 use Rattle.cipher.specs.Operations.{sealing, blockCall, blockOutcome, watchOutcome}
+use Rattle.cipher.specs.OpenOperations.{bothTests, opening, openCall, openOutcome, watchOpenOutcome}
 use Rattle.cipher.proofs.Answers.{counts-figures}
 use Rattle.cipher.proofs.Calls.{tests-passed, call-lengths-right, Good}
 use Rattle.cipher.proofs.Theorems.{sealing-good}
+use Rattle.cipher.proofs.OpenTheorems.{opening-good}
 
 -- ---- calls of the right lengths are accepted
 
@@ -154,3 +156,48 @@ pub watch-settled : (r : List ℕ) (s : ℕ) (key block random list : List ℕ) 
 unfolding watchOutcome callOf
 watch-settled r s key block random list values hk hb hr e =
     tests-settled (sealing r s) key block random (listFits (length list) values) hk hb hr (call.watch-passed (blockCall r s key block random) list values e .1)
+
+-- ---- of Open
+
+module _ (r q : List ℕ) (s : ℕ) (record-tests : bothTests r q ≡ done []) (some : 0 < s) (nine : s ≤ 9) where
+  -- Open accepts every call of the right lengths, whatever the shares and the random bytes, and hands back the figures;
+  pub open-accepts : (key block random : List ℕ) → Small 8 key → Small 8 block → Small 8 random
+      → length key ≡ 10 * s → length block ≡ 8 * s → length random ≡ bytesFor 4 (openDraws s)
+      → openOutcome r q s key block random (8 * s) ≡ done (openFigures s)
+  unfolding openOutcome openFigures figuresFor
+  open-accepts = accepts (opening r q s) (opening-good r q s) record-tests some nine
+
+  -- and so does Watch open, with any list of up to 64 step numbers.
+  pub watch-open-accepts : (key block random : List ℕ) → Small 8 key → Small 8 block → Small 8 random
+      → length key ≡ 10 * s → length block ≡ 8 * s → length random ≡ bytesFor 4 (openDraws s)
+      → (list : List ℕ) → length list ≤ 64 → ((k : ℕ) → getD list k 0 < openSteps s)
+      → watchOpenOutcome r q s key block random list (length list) ≡ done (openFigures s)
+  unfolding watchOpenOutcome openFigures figuresFor
+  watch-open-accepts = watch-accepting (opening r q s) (opening-good r q s) record-tests some nine
+
+  module _ (key block random : List ℕ) (a : Settled (openInputs s) (key ∷ block ∷ []) random) where
+    -- WHAT A SECRET AND A CHOICE SETTLE, Open accepts, and hands back the figures;
+    pub open-accepted : openOutcome r q s key block random (8 * s) ≡ done (openFigures s)
+    unfolding openOutcome openFigures figuresFor
+    open-accepted = settled-accepts (opening r q s) (opening-good r q s) record-tests some nine key block random a
+
+    -- and so does Watch open, with any list of up to 64 step numbers.
+    pub watch-open-accepted : (list : List ℕ) → length list ≤ 64 → ((k : ℕ) → getD list k 0 < openSteps s)
+        → watchOpenOutcome r q s key block random list (length list) ≡ done (openFigures s)
+    unfolding watchOpenOutcome openFigures figuresFor
+    watch-open-accepted = settled-watch-accepts (opening r q s) (opening-good r q s) record-tests some nine key block random a
+
+-- EVERY ACCEPTED CALL is settled by a secret and a choice: of Open,
+pub open-settled : (r q : List ℕ) (s : ℕ) (key block random : List ℕ) (out : ℕ) → Small 8 key → Small 8 block → Small 8 random
+    → {v : List ℕ} → openOutcome r q s key block random out ≡ done v → Settled (openInputs s) (key ∷ block ∷ []) random
+unfolding openOutcome callOf
+open-settled r q s key block random out hk hb hr e =
+    let fits = eqb out (8 * s) in
+    tests-settled (opening r q s) key block random fits hk hb hr (call.call-passed (openCall r q s key block random) fits e .1)
+
+-- and of Watch open; and by no other (`settled-once` of crates/steps/proofs/Settled.antt).
+pub watch-open-settled : (r q : List ℕ) (s : ℕ) (key block random list : List ℕ) (values : ℕ) → Small 8 key → Small 8 block → Small 8 random
+    → {v : List ℕ} → watchOpenOutcome r q s key block random list values ≡ done v → Settled (openInputs s) (key ∷ block ∷ []) random
+unfolding watchOpenOutcome callOf
+watch-open-settled r q s key block random list values hk hb hr e =
+    tests-settled (opening r q s) key block random (listFits (length list) values) hk hb hr (call.watch-passed (openCall r q s key block random) list values e .1)

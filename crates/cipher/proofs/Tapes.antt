@@ -14,12 +14,14 @@ use Rattle.steps.specs.Settled.{Choice, choiceBits, masksThen, Chosen, Settles,
 use Rattle.steps.specs.Call as call
 use Rattle.steps.proofs.Chosen.{choice-tape, tape-choice}
 use Rattle.present.specs.Present.{table, State}
-use Rattle.cipher.specs.Figures.{figures, blockSteps}
-use Rattle.cipher.specs.Experiment.{experiment, blockInputs}
+use Rattle.cipher.specs.Figures.{figures, blockSteps, openFigures, openSteps}
+use Rattle.cipher.specs.Experiment.{experiment, blockInputs, openExperiment, openInputs}
 use Rattle.cipher.specs.Ciphering.{recordTests, Ciphering, callOf, figuresFor, inputsOf, experimentOf}
 use Rattle.cipher.specs.Operations.{sealing, watchOutcome, watchOutput}
+use Rattle.cipher.specs.OpenOperations.{bothTests, opening, watchOpenOutcome, watchOpenOutput}
 use Rattle.cipher.proofs.Calls.{Good}
 use Rattle.cipher.proofs.Theorems.{sealing-good, block-full}
+use Rattle.cipher.proofs.OpenTheorems.{opening-good, open-full}
 use Rattle.cipher.proofs.Watched.{shows}
 use Rattle.cipher.proofs.Settles.{settled-watch-accepts}
 
@@ -55,3 +57,20 @@ pub tape-watched : (r : List ℕ) (s : ℕ) → recordTests table r ≡ done [] 
     × (watchOutput r s key block (c .random) list ≡ watched list (trace (experiment r s x) tape))
 unfolding watchOutcome watchOutput figures figuresFor experiment
 tape-watched r s = tape-watching (sealing r s) (sealing-good r s)
+
+-- ---- of Open
+
+pub open-choice-taped : (s : ℕ) (masks : List (List ℕ)) (random : List ℕ) → Choice (openInputs s) masks random
+    → let tape = masksThen masks (elements 4 random) in let bits = choiceBits (openInputs s) in (length tape ≡ length bits) × Fits bits tape
+open-choice-taped s = choice-tape (openInputs s) (open-full s)
+
+pub open-tape-chosen : (s : ℕ) (tape : List ℕ) → let bits = choiceBits (openInputs s) in length tape ≡ length bits → Fits bits tape → Chosen (openInputs s) tape
+open-tape-chosen s = tape-choice (openInputs s) (open-full s)
+
+pub open-tape-watched : (r q : List ℕ) (s : ℕ) → bothTests r q ≡ done [] → 0 < s → s ≤ 9 → (x : State ℕ) {tape key block : List ℕ}
+    → (c : Chosen (openInputs s) tape) → Settles (openInputs s .secrets) (x .key ∷ x .block ∷ []) (c .masks) (key ∷ block ∷ [])
+    → (list : List ℕ) → length list ≤ 64 → ((k : ℕ) → getD list k 0 < openSteps s)
+    → (watchOpenOutcome r q s key block (c .random) list (length list) ≡ done (openFigures s))
+    × (watchOpenOutput r q s key block (c .random) list ≡ watched list (trace (openExperiment r q s x) tape))
+unfolding watchOpenOutcome watchOpenOutput openFigures figuresFor openExperiment
+open-tape-watched r q s = tape-watching (opening r q s) (opening-good r q s)

@@ -12,8 +12,9 @@ use Rattle.steps.proofs.Settled.{split-again}
 use Rattle.steps.proofs.TwoSecrets.{two-trace}
 use Rattle.present.specs.Present.{State}
 use Rattle.cipher.specs.Ciphering.{Ciphering, callProgram, callOf, inputsOf, experimentOf}
-use Rattle.cipher.specs.Experiment.{experiment, blockInputs}
+use Rattle.cipher.specs.Experiment.{experiment, blockInputs, openExperiment, openInputs}
 use Rattle.cipher.specs.Operations.{sealing, watchOutput}
+use Rattle.cipher.specs.OpenOperations.{opening, watchOpenOutput}
 
 pub shows : (c : Ciphering) → 0 < c .shares → (a : State ℕ) {masks : List (List ℕ)} {key block : List ℕ}
     (random list : List ℕ) → MasksFor (c .shares) (inputsOf c .secrets) masks
@@ -36,3 +37,11 @@ pub watch-shows : (r : List ℕ) (s : ℕ) → 0 < s → (a : State ℕ) {masks 
     → watchOutput r s key block random list ≡ watched list (trace (experiment r s a) (masksThen masks (elements 4 random)))
 unfolding watchOutput experiment
 watch-shows r s = shows (sealing r s)
+
+-- of Watch open
+pub watch-open-shows : (r q : List ℕ) (s : ℕ) → 0 < s → (a : State ℕ) {masks : List (List ℕ)} {key block : List ℕ}
+    (random list : List ℕ) → MasksFor s (openInputs s .secrets) masks
+    → Settles (openInputs s .secrets) (a .key ∷ a .block ∷ []) masks (key ∷ block ∷ [])
+    → watchOpenOutput r q s key block random list ≡ watched list (trace (openExperiment r q s a) (masksThen masks (elements 4 random)))
+unfolding watchOpenOutput openExperiment
+watch-open-shows r q s = shows (opening r q s)

@@ -1,11 +1,13 @@
-// The tests that Block and its watch share.
+// The tests that the operations and their watches share.
 ghost use mathlib.Core.Path.{_≡_};
 ghost use mathlib.Core.List.{[], _∷_};
 ghost use Prim.Native.Nat.{_-_, _*_, _<_, _≤_};
 ghost use Rattle.refusal.specs.Outcome.{done, refused};
 ghost use Rattle.decomposition.specs.Record.{readOutcome};
 ghost use Rattle.cipher.specs.Ciphering.{Nibbles, recordTests, callLengths, argumentTests, callTests};
+ghost use Rattle.cipher.specs.OpenOperations.{bothTests, opening};
 ghost use Rattle.cipher.specs.Operations.{sealing, testedReport};
+ghost use Rattle.present.specs.Decrypt.{inverseTable};
 use crate::figures::drawn_by;
 use decomposition::CheckAnswer;
 use decomposition::ReadAnswer;
@@ -16,6 +18,9 @@ use steps::bytes_for;
 
 // The table of PRESENT's S-box.
 const TABLE: [u8; 16] = [12, 5, 6, 11, 9, 0, 10, 13, 3, 14, 15, 8, 4, 7, 1, 2];
+
+// The inverse table.
+const INVERSE: [u8; 16] = [5, 14, 15, 8, 12, 1, 2, 13, 11, 4, 6, 3, 0, 7, 9, 10];
 
 // What the tests come to.
 pub enum Tested {
@@ -42,6 +47,46 @@ pub fn call_tests(rec: &[u8], s: u32, key: &[u8], block: &[u8], random: &[u8], f
         Tested::Refused { number, place } => Tested::refuse(number, place),
         Tested::Passed => argument_tests(527, s, key, block, random, fits),
     }
+}
+
+// All tests of an opening.
+pub fn open_tests(
+    rec: &[u8],
+    inverse: &[u8],
+    s: u32,
+    key: &[u8],
+    block: &[u8],
+    random: &[u8],
+    fits: bool,
+) -> Tested
+    ensures { λ r. ⌜ testedReport r
+        ≡ callTests (opening (now (rec .entry)) (now (inverse .entry)) s) (now (key .entry)) (now (block .entry)) (now (random .entry)) fits ⌝ }
+{
+    let tested = both_tests(rec, inverse);
+    match tested {
+        Tested::Refused { number, place } => Tested::refuse(number, place),
+        Tested::Passed => argument_tests(558, s, key, block, random, fits),
+    }
+}
+
+// The tests of a record of the table, and of one of the inverse table.
+fn both_tests(rec: &[u8], inverse: &[u8]) -> Tested
+    ensures { λ r. ⌜ testedReport r ≡ bothTests (now (rec .entry)) (now (inverse .entry)) ⌝ }
+{
+    let table = TABLE;
+    let tested = record_tests(&table, rec);
+    match tested {
+        Tested::Refused { number, place } => Tested::refuse(number, place),
+        Tested::Passed => inverse_tests(inverse),
+    }
+}
+
+// The tests of a record of the inverse table.
+fn inverse_tests(inverse: &[u8]) -> Tested
+    ensures { λ r. ⌜ testedReport r ≡ recordTests inverseTable (now (inverse .entry)) ⌝ }
+{
+    let table = INVERSE;
+    record_tests(&table, inverse)
 }
 
 // The tests of the record of a table.

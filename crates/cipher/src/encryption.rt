@@ -18,13 +18,13 @@ use decomposition::head_of;
 use steps::Counts;
 
 // The sharing of a block, with what the run has taken.
-pub struct Encrypted {
+pub struct Ciphered {
     pub block: [u8; 72],
     pub counts: Counts,
 }
 
 // The state before round 1: the shares of a key and of a block, 0 past them.
-fn load(key: &[u8], block: &[u8]) -> RoundState
+pub fn load(key: &[u8], block: &[u8]) -> RoundState
     requires { ⌜ (length (now key) ≤ 90) × (length (now block) ≤ 72) ⌝ }
     ensures { λ r. ⌜ Loaded (now (key .entry)) (now (block .entry)) r ⌝ }
 {
@@ -48,7 +48,7 @@ pub fn encrypt(
     random: &[u8],
     watch: &[u32],
     values: &mut [u8],
-) -> Encrypted
+) -> Ciphered
     requires { ⌜ (0 < s) × (s ≤ 9) × (recordSize (versionOf (now rec)) (layout 4 4) ≤ length (now rec)) × (length (now key) ≡ 10 * s) × (length (now block) ≡ 8 * s) ⌝ }
     requires { ⌜ Closed s (elements 4 (now random)) (recordSbox s (coefficientsOf (now rec))) ⌝ }
     requires { ⌜ Ready (elements 4 (now random)) (now watch)
@@ -65,7 +65,7 @@ pub fn encrypt(
     let mut b = t.block;
     let n = t.counts;
     let next = add_round_key(s, &k, watch, values, &mut b, n.steps);
-    Encrypted {
+    Ciphered {
         block: b,
         counts: n.with_steps(next),
     }

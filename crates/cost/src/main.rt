@@ -1,4 +1,4 @@
-// What a masked block takes, for 1, 3 and 5 shares, by the library's own totals: of PRESENT-80, and then of AES-128.
+// What a masked block takes, for 1, 3 and 5 shares, by the library's own totals: of PRESENT-80, sealed and opened, and then of AES-128.
 ghost use Prim.Native.Nat.{_<_, _≤_};
 use libc::STDOUT_FILENO;
 
@@ -26,6 +26,16 @@ fn print_present(s: u32)
     print_line(s, products, random, cipher::figures::step_count(s));
 }
 
+// The line of a block of PRESENT-80 that is opened.
+fn print_opening(s: u32)
+    requires { ⌜ (0 < s) × (s ≤ 9) ⌝ }
+{
+    let count = s as usize;
+    let products = cipher::figures::open_product_count();
+    let random = steps::bytes_for(4, cipher::figures::open_draw_count(count));
+    print_line(s, products, random, cipher::figures::open_step_count(s));
+}
+
 // The line of a block of AES-128.
 fn print_aes(s: u32)
     requires { ⌜ (0 < s) × (s ≤ 9) ⌝ }
@@ -46,6 +56,11 @@ fn main() {
     print_present(1);
     print_present(3);
     print_present(5);
+    io::write_all(STDOUT_FILENO, b"\nPRESENT-80, opened\n");
+    print_head();
+    print_opening(1);
+    print_opening(3);
+    print_opening(5);
     io::write_all(STDOUT_FILENO, b"\nAES-128\n");
     print_head();
     print_aes(1);

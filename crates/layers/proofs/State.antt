@@ -2,12 +2,12 @@
 use mathlib.Core.Path.{_≡_, sym, ap, ap₂, _∙_}
 use mathlib.Core.List.{List}
 use Prim.Native.Nat.{ℕ, zero, suc, _+_, _-_, _*_, _/_, _%_, _^_, _≤_, _<_}
-use native.Mathlib.Nat.{mul-assoc, mod-eq-of-lt, lt-of-lt-of-le}
+use native.Mathlib.Nat.{mod-lt, add-assoc, mul-assoc, mod-eq-of-lt, lt-of-lt-of-le}
 use native.Mathlib.Decide.{decLt, ℕ-discrete}
 use native.Mathlib.Omega.{arith}
 use lib.Arith.{digits-lt}
 use lib.ListN.{length, getD, set, length-set}
-use lib.Pow.{pow-add, pow-mono, shl-lt, shr-shr, high}
+use lib.Pow.{pow-pos, pow-add, pow-mono, shl-lt, shr-shr, high}
 use lib.Seq.{paste, length-paste, getD-set-same, getD-set-other, set-out}
 use Rattle.xor.specs.Xor.{_⊕_}
 use Rattle.xor.specs.Sum.{Small}
@@ -15,6 +15,7 @@ use Rattle.xor.proofs.Xor.{⊕-lt, ⊕-cancel, ⊕-assoc}
 use Rattle.field.proofs.Tests.{same-below}
 use Rattle.steps.specs.Bytes.{fromBytes, toBytes}
 use Rattle.present.specs.Present.{nibble, replace, size80, roundKey, rotate, roundNumber}
+use Rattle.present.specs.Decrypt.{unrotate}
 use Rattle.steps.proofs.Bytes.{length-to-bytes}
 use Rattle.present.proofs.Numbers.{replace-is}
 use Rattle.steps.specs.ShareBytes.{bytesAt, shareAt, Changed}
@@ -155,6 +156,22 @@ rotated-lt t u ht hu =
     let last : t / 2 ^ 19 < 2 ^ 45 = omega arith in
     let both : u * 2 ^ 45 + t / 2 ^ 19 < 2 ^ 16 * 2 ^ 45 = digits-lt hu last in
     omega arith
+
+-- the rotation back
+pub unrotated-parts : (t u : ℕ) → u < 2 ^ 16
+    → unrotate size80 (t * 2 ^ 16 + u) ≡ (t % 2 ^ 45 * 2 ^ 19 + u * 8 + t / 2 ^ 61) * 2 ^ 16 + t / 2 ^ 45 % 2 ^ 16
+unfolding unrotate
+unrotated-parts t u h =
+    let a = t / 2 ^ 45 in
+    let low : (t * 2 ^ 16 + u) % 2 ^ 61 ≡ t % 2 ^ 45 * 2 ^ 16 + u = omega arith in
+    let high : (t * 2 ^ 16 + u) / 2 ^ 61 ≡ a = omega arith in
+    let top : t / 2 ^ 61 ≡ a / 2 ^ 16 = omega arith in
+    rw (low, high, top) (omega arith)
+
+pub unrotated-lt : (t u : ℕ) → t < 2 ^ 64 → u < 2 ^ 16 → t % 2 ^ 45 * 2 ^ 19 + u * 8 + t / 2 ^ 61 < 2 ^ 64
+unrotated-lt t u ht hu =
+    let last : t / 2 ^ 61 < 8 = omega arith in
+    rw (add-assoc (t % 2 ^ 45 * 2 ^ 19) (u * 8) (t / 2 ^ 61)) (digits-lt (mod-lt t (pow-pos 45)) (digits-lt hu last))
 
 -- ---- the round number
 

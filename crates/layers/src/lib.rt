@@ -13,3 +13,5 @@ pub use shares::permute_shares;
 pub use shares::replace_column;
 pub use shares::rotate_keys;
 pub use shares::store;
+pub use shares::unpermute_shares;
+pub use shares::unrotate_keys;

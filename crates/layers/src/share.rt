@@ -4,10 +4,12 @@ ghost use Prim.Native.Nat.{_+_, _*_, _<_, _≤_};
 ghost use lib.ListN.{length};
 ghost use Rattle.xor.specs.Xor.{_⊕_};
 ghost use Rattle.present.specs.Present as present;
+ghost use Rattle.present.specs.Decrypt as decryption;
 ghost use Rattle.steps.specs.ShareBytes.{shareAt, Changed};
 use crate::bytes::number;
 use crate::bytes::put_number;
 use crate::permutation::permute;
+use crate::permutation::unpermute;
 
 // Nibble k of share i, of w bytes.
 pub fn nibble(w: usize, i: usize, k: usize, l: &[u8]) -> u8
@@ -40,6 +42,16 @@ pub fn permute_share(i: usize, block: &mut [u8])
     put_number(block, at, 8, permute(x));
 }
 
+// Permutes share i of a block back.
+pub fn unpermute_share(i: usize, block: &mut [u8])
+    requires { ⌜ 8 * i + 8 ≤ length (now block) ⌝ }
+    ensures { λ _. ⌜ Changed 8 i (decryption.unpermute (shareAt 8 (now (block .entry)) i)) (now (block .entry)) (now (block .exit)) ⌝ }
+{
+    let at = 8 * i;
+    let x = number(block, at, 8);
+    put_number(block, at, 8, unpermute(x));
+}
+
 // Adds the round key of share i of a key to share i of a block.
 pub fn add_share(i: usize, key: &[u8], block: &mut [u8])
     requires { ⌜ (10 * i + 10 ≤ length (now key)) × (8 * i + 8 ≤ length (now block)) ⌝ }
@@ -67,6 +79,23 @@ pub fn rotate_share(i: usize, key: &mut [u8])
         t % 8 * 0x2000000000000000 + u * 0x200000000000 + t / 0x80000,
     );
     put_number(key, at + 8, 2, t / 8 % 0x10000);
+}
+
+// Rotates share i of a key right by 61. Its first 64 bits are t, its last 16 are u.
+pub fn unrotate_share(i: usize, key: &mut [u8])
+    requires { ⌜ 10 * i + 10 ≤ length (now key) ⌝ }
+    ensures { λ _. ⌜ Changed 10 i (decryption.unrotate present.size80 (shareAt 10 (now (key .entry)) i)) (now (key .entry)) (now (key .exit)) ⌝ }
+{
+    let at = 10 * i;
+    let t = number(key, at, 8);
+    let u = number(key, at + 8, 2);
+    put_number(
+        key,
+        at,
+        8,
+        t % 0x200000000000 * 0x80000 + u * 8 + t / 0x2000000000000000,
+    );
+    put_number(key, at + 8, 2, t / 0x200000000000 % 0x10000);
 }
 
 // Adds the round number r to share 0 of a key, at bits 19 to 15.

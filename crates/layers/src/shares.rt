@@ -8,6 +8,7 @@ ghost use Rattle.xor.specs.Xor.{_⊕_};
 ghost use Rattle.xor.specs.Sum.{join};
 ghost use Rattle.steps.specs.Sharing.{Sharing};
 ghost use Rattle.present.specs.Present as present;
+ghost use Rattle.present.specs.Decrypt as decryption;
 ghost use Rattle.steps.specs.Sharing.{shareWise, alone};
 ghost use Rattle.steps.specs.ShareBytes.{bytesOf, sharesOf, sharing, KeptPast};
 use crate::share::add_number;
@@ -16,6 +17,8 @@ use crate::share::nibble;
 use crate::share::permute_share;
 use crate::share::replace;
 use crate::share::rotate_share;
+use crate::share::unpermute_share;
+use crate::share::unrotate_share;
 
 // Copies all of `from` to the start of `to`.
 pub fn copy(from: &[u8], to: &mut [u8])
@@ -51,6 +54,19 @@ pub fn permute_shares(s: usize, block: &mut [u8; 72])
     }
 }
 
+// Permutes each share of a block back.
+pub fn unpermute_shares(s: usize, block: &mut [u8; 72])
+    requires { ⌜ s ≤ 9 ⌝ }
+    ensures { λ _. ⌜ sharing 8 s (now (block .exit)) ≡ map decryption.unpermute (sharing 8 s (now (block .entry))) ⌝ }
+    ensures { λ _. ⌜ KeptPast 8 s (now (block .entry)) (now (block .exit)) ⌝ }
+{
+    let mut i: usize = 0;
+    while i < s {
+        unpermute_share(i, block);
+        i += 1;
+    }
+}
+
 // Adds the round key of each share of a key to that share of a block.
 pub fn add_round_keys(s: usize, key: &[u8; 90], block: &mut [u8; 72])
     requires { ⌜ s ≤ 9 ⌝ }
@@ -74,6 +90,19 @@ pub fn rotate_keys(s: usize, key: &mut [u8; 90])
     let mut i: usize = 0;
     while i < s {
         rotate_share(i, key);
+        i += 1;
+    }
+}
+
+// Rotates each share of a key back.
+pub fn unrotate_keys(s: usize, key: &mut [u8; 90])
+    requires { ⌜ s ≤ 9 ⌝ }
+    ensures { λ _. ⌜ sharing 10 s (now (key .exit)) ≡ map (decryption.unrotate present.size80) (sharing 10 s (now (key .entry))) ⌝ }
+    ensures { λ _. ⌜ KeptPast 10 s (now (key .entry)) (now (key .exit)) ⌝ }
+{
+    let mut i: usize = 0;
+    while i < s {
+        unrotate_share(i, key);
         i += 1;
     }
 }

@@ -71,7 +71,7 @@ permute-unpermute = undone-linear unpermute permute unpermute-linear permute-lin
 
 -- ---- the keys
 
-on-nibble-lt : (f : ℕ → ℕ) → ((v : ℕ) → f v < 2 ^ 4) → (n k x : ℕ) → 4 * k + 4 ≤ n → x < 2 ^ n → onNibble f k x < 2 ^ n
+pub on-nibble-lt : (f : ℕ → ℕ) → ((v : ℕ) → f v < 2 ^ 4) → (n k x : ℕ) → 4 * k + 4 ≤ n → x < 2 ^ n → onNibble f k x < 2 ^ n
 unfolding onNibble
 on-nibble-lt f hf n k x l h = replace-linear n k l .small x (f (nibble k x)) h (hf (nibble k x))
 

@@ -1,9 +1,11 @@
 pub mod Numbers
 pub mod Layer
 pub mod Inverse
+pub mod Backwards
 pub mod Recording
 pub mod Joined
 pub mod Counts
 pub mod Coupled
+pub mod Opened
 pub mod Secrecy
 pub mod Vectors

@@ -1,5 +1,5 @@
 -- The laws of bits and nibbles, of the permutation and of the parts of the key schedule: each is linear.
-use mathlib.Core.Path.{_≡_, refl, sym, ap, ap₂, _∙_}
+use mathlib.Core.Path.{_≡_, refl, sym, ap, ap₂, subst, _∙_}
 use mathlib.Core.Logic.{_≢_}
 use mathlib.Core.Bool.{Bool, true, false, not, cond}
 use Prim.Native.Nat.{ℕ, zero, suc, _+_, _-_, _*_, _/_, _%_, _^_, _≤_, _<_}
@@ -8,7 +8,7 @@ use native.Mathlib.Decide.{ℕ-discrete, decLt}
 use native.Mathlib.Omega.{arith}
 use lib.Arith.{digits-lt, digits-mod}
 use lib.Dec.{T, eqb}
-use lib.Pow.{pow-pos, pow-mono, pow-add, shl-lt, shr-lt, shl-shr, shr-shr, split}
+use lib.Pow.{pow-pos, pow-mono, pow-add, shl-lt, shr-lt, shl-shr, shr-shr, split, high, low}
 use Rattle.xor.specs.Xor.{_⊕_}
 use Rattle.xor.specs.Sum.{Additive}
 use Rattle.xor.proofs.Xor.{⊕-zero, zero-⊕, ⊕-lt, ⊕-cancel, ⊕-exchange, ⊕-shr, ⊕-mod, xor}
@@ -16,7 +16,7 @@ use Rattle.steps.proofs.Tests.{told-apart}
 use Rattle.steps.proofs.Bytes.{⊕-block}
 use Rattle.steps.specs.Iterate.{turns, iterate}
 use Rattle.present.specs.Present.{bit, nibble, replace, place, send, permute, Size, keyBits, Sound, size80, roundKey, rotate, roundNumber}
-use Rattle.present.specs.Decrypt.{fetch, unpermute}
+use Rattle.present.specs.Decrypt.{fetch, unpermute, unrotate}
 use Rattle.steps.specs.Linear.{Linear, LinearPair}
 
 -- ---- sums of blocks of bits
@@ -208,6 +208,23 @@ permute-place x i h = sent 64 x i h (omega arith)
 pub sound80 : Sound size80
 sound80 = record { long = omega arith; boxed = omega arith; numbered = omega arith }
 
+-- the low a bits and the b bits above them exchanged
+exchanged-linear : (a b : ℕ) → Linear (b + a) (a + b) (λ k. k % 2 ^ a * 2 ^ b + k / 2 ^ a)
+exchanged-linear a b =
+    record {
+      additive = λ x y hx hy.
+          ap₂ (λ (v w : ℕ). v * 2 ^ b + w) (⊕-mod x y a) (⊕-shr x y a)
+          ∙ sym (⊕-block b (x % 2 ^ a) (y % 2 ^ a) (x / 2 ^ a) (y / 2 ^ a) (shr-lt b a hx) (shr-lt b a hy));
+      small = λ x h. rw (pow-add 2 a b) (digits-lt (mod-lt x (pow-pos a)) (shr-lt b a h));
+    }
+
+-- and back
+exchanged-back : (a b k : ℕ) → k < 2 ^ (b + a)
+    → (k % 2 ^ a * 2 ^ b + k / 2 ^ a) % 2 ^ b * 2 ^ a + (k % 2 ^ a * 2 ^ b + k / 2 ^ a) / 2 ^ b ≡ k
+exchanged-back a b k h =
+    let l : k / 2 ^ a < 2 ^ b = shr-lt b a h in
+    rw (low (k % 2 ^ a) b l, high (k % 2 ^ a) b l) (split k a)
+
 module _ (z : Size) (sound : Sound z) where
   pub round-key-linear : Linear (keyBits z) 64 (roundKey z)
   unfolding roundKey
@@ -215,19 +232,27 @@ module _ (z : Size) (sound : Sound z) where
       let e : 64 + (keyBits z - 64) ≡ keyBits z = omega arith in
       record { additive = λ x y hx hy. ⊕-shr x y (keyBits z - 64); small = λ x h. shr-lt 64 (keyBits z - 64) (rw e h) }
 
+  parts : 61 + (keyBits z - 61) ≡ keyBits z
+  parts = omega arith
+
+  parts′ : keyBits z - 61 + 61 ≡ keyBits z
+  parts′ = omega arith
+
   pub rotate-linear : Linear (keyBits z) (keyBits z) (rotate z)
   unfolding rotate
   rotate-linear =
-      let w = keyBits z - 61 in
-      let e : 61 + w ≡ keyBits z = omega arith in
-      let big : 2 ^ keyBits z ≡ 2 ^ w * 2 ^ 61 = ap (λ (n : ℕ). 2 ^ n) (sym e) ∙ pow-add 2 61 w ∙ mul-comm (2 ^ 61) (2 ^ w) in
-      let top : (x : ℕ) → x < 2 ^ keyBits z → x / 2 ^ w < 2 ^ 61 = λ x h. shr-lt 61 w (rw e h) in
-      record {
-        additive = λ x y hx hy.
-            ap₂ (λ (a b : ℕ). a * 2 ^ 61 + b) (⊕-mod x y w) (⊕-shr x y w)
-            ∙ sym (⊕-block 61 (x % 2 ^ w) (y % 2 ^ w) (x / 2 ^ w) (y / 2 ^ w) (top x hx) (top y hy));
-        small = λ x h. rw big (digits-lt (mod-lt x (pow-pos w)) (top x h));
-      }
+      subst (λ (m : ℕ). Linear m (keyBits z) (rotate z)) parts
+      (subst (λ (n : ℕ). Linear (61 + (keyBits z - 61)) n (rotate z)) parts′ (exchanged-linear (keyBits z - 61) 61))
+
+  pub unrotate-linear : Linear (keyBits z) (keyBits z) (unrotate z)
+  unfolding unrotate
+  unrotate-linear =
+      subst (λ (m : ℕ). Linear m (keyBits z) (unrotate z)) parts′
+      (subst (λ (n : ℕ). Linear (keyBits z - 61 + 61) n (unrotate z)) parts (exchanged-linear 61 (keyBits z - 61)))
+
+  pub unrotate-rotate : (k : ℕ) → k < 2 ^ keyBits z → unrotate z (rotate z k) ≡ k
+  unfolding rotate unrotate
+  unrotate-rotate k h = exchanged-back (keyBits z - 61) 61 k (rw parts h)
 
   pub round-number-lt : (r : ℕ) → r < 2 ^ 5 → roundNumber z r < 2 ^ keyBits z
   unfolding roundNumber

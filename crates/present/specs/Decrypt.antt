@@ -1,10 +1,10 @@
 -- Decryption of PRESENT: all round keys, the last first, and each part of a round undone, from the last to the first.
 use mathlib.Core.List.{List, [], _∷_}
-use Prim.Native.Nat.{ℕ, _*_, _^_}
+use Prim.Native.Nat.{ℕ, _+_, _-_, _*_, _/_, _%_, _^_}
 use lib.ListN.{getD}
 use Rattle.xor.specs.Xor.{_⊕_}
 use Rattle.steps.specs.Iterate.{iterate, iterateBack}
-use Rattle.present.specs.Present.{bit, sboxLayer, place, Size, roundKey, updateKey}
+use Rattle.present.specs.Present.{bit, sboxLayer, place, Size, keyBits, roundKey, updateKey}
 
 -- the table of the inverse S-box, inputs 0 to 15
 unfoldable pub inverseTable : List ℕ
@@ -21,6 +21,10 @@ fetch x i y = y ⊕ bit (place i) x * 2 ^ i
 -- the inverse permutation: all 64 bits back at their old places
 unfoldable pub unpermute : ℕ → ℕ
 unpermute x = iterate 0 64 (fetch x) 0
+
+-- the key rotated right by 61
+unfoldable pub unrotate : Size → ℕ → ℕ
+unrotate z k = k % 2 ^ 61 * 2 ^ (keyBits z - 61) + k / 2 ^ 61
 
 -- the round key of round r, that of the last key addition being the 32nd
 unfoldable pub roundKeyOf : Size → ℕ → ℕ → ℕ

@@ -27,7 +27,7 @@ fn show_record(record: &[u8; 34]) {
 }
 
 // Fits the table and prints its record.
-fn show_fit(table: &[u8], work: &mut [u8], record: &mut [u8; 34]) {
+pub fn show_fit(table: &[u8], work: &mut [u8], record: &mut [u8; 34]) {
     if fitted(table, work, &mut *record) {
         show_record(record);
     }

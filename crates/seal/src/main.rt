@@ -2,6 +2,7 @@
 mod aes_sealing;
 mod example;
 mod fitting;
+mod opening;
 mod refusing;
 mod sealing;
 mod sharing;
@@ -32,4 +33,5 @@ fn main() {
     watching::part(&record, &key, &block, &random);
     aes_sealing::part();
     unmasked::part();
+    opening::part(&record, &key);
 }

@@ -46,32 +46,55 @@ fn joined(shares: &[u8], out: &mut [u8]) -> bool {
     }
 }
 
-// Says whether two ciphertexts are the same, so that the reader need not compare digits.
-fn compare(found: &[u8], published: &[u8]) {
+// Says whether two values are the same, so that the reader need not compare digits.
+fn compare(label: &[u8], found: &[u8], expected: &[u8]) {
     text::print_row(b"    joined    ", found);
-    text::print_row(b"    published ", published);
-    if check::same(found, published) {
+    text::print_row(label, expected);
+    if check::same(found, expected) {
         text::print(b"\nThey are the same.\n");
     } else {
         text::print(b"\nThey differ.\n");
     }
 }
 
-// Joins the ciphertext and prints it beside the published one.
-fn show_joined(shares: &[u8], out: &mut [u8], published: &[u8]) {
-    text::print(b"\nJoin adds these shares up. Below stands the published ciphertext.\n\n");
-    if joined(shares, &mut *out) {
-        compare(out, published);
+// Joins shares and prints the sum beside what is expected.
+fn show_joined(words: &[u8], label: &[u8], shares: &[u8], sum: &mut [u8], expected: &[u8]) {
+    text::print(b"\nJoin adds these shares up. ");
+    text::print(words);
+    text::print(b"\n\n");
+    if joined(shares, &mut *sum) {
+        compare(label, sum, expected);
     }
+}
+
+// Prints the shares of a value of n bytes and their sum, which words name and a label beside what is expected.
+pub fn show_shares(
+    n: usize,
+    words: &[u8],
+    label: &[u8],
+    shares: &[u8],
+    sum: &mut [u8],
+    expected: &[u8],
+)
+    requires { ⌜ 0 < n ⌝ }
+{
+    text::print(b"\n");
+    text::print_shares(n, shares);
+    show_joined(words, label, shares, sum, expected);
 }
 
 // Prints the shares of a ciphertext of n bytes and their sum.
 pub fn show_ciphertext(n: usize, shares: &[u8], sum: &mut [u8], published: &[u8])
     requires { ⌜ 0 < n ⌝ }
 {
-    text::print(b"\n");
-    text::print_shares(n, shares);
-    show_joined(shares, sum, published);
+    show_shares(
+        n,
+        b"Below stands the published ciphertext.",
+        b"    published ",
+        shares,
+        sum,
+        published,
+    );
 }
 
 // Seals, and prints the shares of the ciphertext and their sum.

@@ -17,6 +17,8 @@ mod try_encrypt;
 mod try_fit;
 mod try_house_fit;
 mod try_join;
+mod try_open;
+mod try_open_watch;
 mod try_read;
 mod try_sbox;
 mod try_sbox_watch;
@@ -54,6 +56,8 @@ fn main() {
     agree = agree & try_file(b"sbox_watch", b"sbox_watch.cases", Operation::SboxWatch);
     agree = agree & try_file(b"block", b"block.cases", Operation::Block);
     agree = agree & try_file(b"block_watch", b"block_watch.cases", Operation::BlockWatch);
+    agree = agree & try_file(b"open", b"open.cases", Operation::Open);
+    agree = agree & try_file(b"open_watch", b"open_watch.cases", Operation::OpenWatch);
     agree = agree & try_file(b"encrypt", b"encrypt.cases", Operation::Encrypt);
     agree = agree & try_file(b"decrypt", b"decrypt.cases", Operation::Decrypt);
     agree = agree & try_file(b"aes_block", b"aes_block.cases", Operation::AesBlock);

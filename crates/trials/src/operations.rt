@@ -10,6 +10,8 @@ use crate::try_encrypt::try_encrypt;
 use crate::try_fit::try_fit;
 use crate::try_house_fit::try_house_fit;
 use crate::try_join::try_join;
+use crate::try_open::try_open;
+use crate::try_open_watch::try_open_watch;
 use crate::try_read::try_read;
 use crate::try_sbox::try_sbox;
 use crate::try_sbox_watch::try_sbox_watch;
@@ -24,6 +26,8 @@ pub enum Operation {
     SboxWatch,
     Block,
     BlockWatch,
+    Open,
+    OpenWatch,
     Encrypt,
     Decrypt,
     AesBlock,
@@ -43,6 +47,8 @@ pub fn try_case(operation: Operation, file: &[u8], at: usize) -> Trial {
         Operation::SboxWatch => try_sbox_watch(file, at),
         Operation::Block => try_block(file, at),
         Operation::BlockWatch => try_block_watch(file, at),
+        Operation::Open => try_open(file, at),
+        Operation::OpenWatch => try_open_watch(file, at),
         Operation::Encrypt => try_encrypt(file, at),
         Operation::Decrypt => try_decrypt(file, at),
         Operation::AesBlock => try_aes_block(file, at),

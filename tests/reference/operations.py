@@ -1,4 +1,4 @@
-"""The fourteen operations. Each returns an Answer; the tests come first.
+"""The sixteen operations. Each returns an Answer; the tests come first.
 
 Slices are bytes, a watch list is a list of numbers. An output is given with
 its content before the call; the answer holds its content after the call.

@@ -23,7 +23,7 @@ next_sum n k a b h = go (bit_cases (b / 2 ^ k % 2) (odd_lt (b / 2 ^ k)))
     go : (b / 2 ^ k % 2 ≡ 0) ⊎ (b / 2 ^ k % 2 ≡ 1) → mul n a (b % 2 ^ k) ⊕ doubled n k a * (b / 2 ^ k % 2) ≡ mul n a (b % 2 ^ (k + 1))
     go (inl p) =
         ap (λ (d : ℕ). mul n a (b % 2 ^ k) ⊕ doubled n k a * d) p
-        ∙ ap (λ (x : ℕ). mul n a (b % 2 ^ k) ⊕ x) (N.mul_zero (doubled n k a)) ∙ ⊕-zero (mul n a (b % 2 ^ k))
+        ∙ ap (λ (x : ℕ). mul n a (b % 2 ^ k) ⊕ x) (N.mul-zero (doubled n k a)) ∙ ⊕-zero (mul n a (b % 2 ^ k))
         ∙ ap (mul n a) (sym (next_low k b ∙ ap (λ (d : ℕ). d * 2 ^ k + b % 2 ^ k) p ∙ ap (λ (x : ℕ). x + b % 2 ^ k) (zero-mul (2 ^ k)) ∙ zero-add (b % 2 ^ k)))
     go (inr p) =
         ap (λ (d : ℕ). mul n a (b % 2 ^ k) ⊕ doubled n k a * d) p

@@ -44,7 +44,7 @@ module _ {n : ℕ} (ring : Ring n) where
 
   pub pow_mul : (a j k : ℕ) → a < 2 ^ n → pow n a (j * k) ≡ pow n (pow n a j) k
   unfolding pow
-  pow_mul a j zero h = ap (pow n a) (N.mul_zero j)
+  pow_mul a j zero h = ap (pow n a) (N.mul-zero j)
   pow_mul a j (suc k) h =
       ap (pow n a) (mul-suc j k ∙ add_comm (j * k) j) ∙ pow_add a j (j * k) h ∙ ap (mul n (pow n a j)) (pow_mul a j k h)
 

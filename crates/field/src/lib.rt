@@ -1,4 +1,6 @@
 // The fields of 16, 64 and 256 elements. The width is public; elements decide no branch and no index in `mul` and `square`.
+#![tactic(auto)]
+
 ghost use Rattle.std.specs.Prelude.{◌≡◌, ◌^◌, ◌<◌, length, get_or};
 ghost use Rattle.field.specs.Mul as spec;
 ghost use Rattle.field.specs.Mul.{Width, Narrow};

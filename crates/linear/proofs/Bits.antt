@@ -109,8 +109,8 @@ bit_laws = record {
   mul_comm = λ {a} {b} h g. mul_comm a b;
   mul_assoc = λ {a} {b} {c} ha hb hc. mul_assoc a b c;
   mul_add = λ {a} {b} {c} ha hb hc. mul_comm a (b ⊕ c) ∙ bilinear.⊕-bit b c a hb hc ∙ ap₂ ◌⊕◌ (mul_comm b a) (mul_comm c a);
-  mul-one = λ {a} h. mul-one a;
-  mul-zero = λ {a} h. mul-zero a;
+  mul_one = λ {a} h. mul-one a;
+  mul_zero = λ {a} h. mul-zero a;
   mul_inv = λ {a} h nz. unit (bit_cases a h) nz;
 }
   where

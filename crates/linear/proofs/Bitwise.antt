@@ -104,7 +104,7 @@ module _ {n : ℕ} (f : Field n) (m R : ℕ) (M : ℕ → ℕ → ℕ) where
   -- the right side, and every other first bit of an entry
   first_bit : (b u : ℕ) (r : ℕ → ℕ) → row_of n b r (u * n) ≡ bit b (r u)
   first_bit b u r =
-      ap (row_of n b r) (sym (add-zero (u * n))) ∙ row_of_place n b r u 0 some_bits ∙ ap (bit b) (ring.mul-one f.ring (r u))
+      ap (row_of n b r) (sym (add-zero (u * n))) ∙ row_of_place n b r u 0 some_bits ∙ ap (bit b) (ring.mul_one f.ring (r u))
 
   -- elements that solve the equations at the bits asked for: their bits solve the equations over bits
   pub solves_bits : (u : ℕ) (p : ℕ → ℕ) → RowElements (scalars n) u p

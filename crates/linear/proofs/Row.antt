@@ -38,7 +38,7 @@ module _ {S : Scalars} (F : ScalarLaws S) where
   zero_below = omega (arith, F.one_below)
 
   pub zero_add : (a : ℕ) → S.add 0 a ≡ a
-  zero_add a = F.add_comm 0 a ∙ F.add-zero a
+  zero_add a = F.add_comm 0 a ∙ F.add_zero a
 
   pub zero_mul : {a : ℕ} → a < S.size → S.mul 0 a ≡ 0
   zero_mul h = F.mul_comm zero_below h ∙ F.mul_zero h
@@ -61,7 +61,7 @@ module _ {S : Scalars} (F : ScalarLaws S) where
 
   -- adding twice is adding nothing
   pub twice : (a b : ℕ) → S.add (S.add a b) b ≡ a
-  twice a b = F.add_assoc a b b ∙ ap (S.add a) (F.add_self b) ∙ F.add-zero a
+  twice a b = F.add_assoc a b b ∙ ap (S.add a) (F.add_self b) ∙ F.add_zero a
 
   pub dot_below : (k : ℕ) {r d : ℕ → ℕ} → RowElements S k r → RowElements S k d → dot S k r d < S.size
   unfolding dot
@@ -76,7 +76,7 @@ module _ {S : Scalars} (F : ScalarLaws S) where
   -- the product is additive in the column
   pub dot_plus : (k : ℕ) {r d e : ℕ → ℕ} → RowElements S k r → RowElements S k d → RowElements S k e → dot S k r (plus S d e) ≡ S.add (dot S k r d) (dot S k r e)
   unfolding dot
-  dot_plus zero hr hd he = sym (F.add-zero 0)
+  dot_plus zero hr hd he = sym (F.add_zero 0)
   dot_plus (suc k) {r} {d} {e} hr hd he =
       ap₂ S.add (dot_plus k (small_less hr) (small_less hd) (small_less he)) (F.mul_add (small_last hr) (small_last hd) (small_last he))
       ∙ exchange (dot S k r d) (dot S k r e) (S.mul (r k) (d k)) (S.mul (r k) (e k))
@@ -107,7 +107,7 @@ module _ {S : Scalars} (F : ScalarLaws S) where
   dot_end b zero {r} {d} h z = let e : 0 ≡ b = omega arith in ap (λ (x : ℕ). dot S x r d) e
   dot_end b (suc k) {r} {d} h z = elim (ℕ_discrete b (suc k)) [
     | yes e ↦ ap (λ (x : ℕ). dot S x r d) (sym e)
-    | no n ↦ ap (S.add (dot S k r d)) (z k (omega arith) (le_refl (suc k))) ∙ F.add-zero (dot S k r d)
+    | no n ↦ ap (S.add (dot S k r d)) (z k (omega arith) (le_refl (suc k))) ∙ F.add_zero (dot S k r d)
         ∙ dot_end b k (omega arith) (λ j l g. z j l (omega arith))
   ]
 
@@ -134,7 +134,7 @@ module _ {S : Scalars} (F : ScalarLaws S) where
   -- a product of two runs of places, one after the other
   pub dot_append : (a b : ℕ) (r d : ℕ → ℕ) → dot S (a + b) r d ≡ S.add (dot S a r d) (dot S b (λ j. r (a + j)) (λ j. d (a + j)))
   unfolding dot
-  dot_append a zero r d = ap (λ (k : ℕ). dot S k r d) (add-zero a) ∙ sym (F.add-zero (dot S a r d))
+  dot_append a zero r d = ap (λ (k : ℕ). dot S k r d) (add-zero a) ∙ sym (F.add_zero (dot S a r d))
   dot_append a (suc b) r d =
       ap (λ (k : ℕ). dot S k r d) (add-suc a b)
       ∙ ap (λ (x : ℕ). S.add x (S.mul (r (a + b)) (d (a + b)))) (dot_append a b r d)

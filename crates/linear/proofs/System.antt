@@ -3,7 +3,6 @@ use mathlib.Core.Path.{◌≡◌, sym, ap, ap₂, ◌∙◌, refl}
 use Prim.Native.Nat.{ℕ, zero, suc, ◌+◌, ◌≤◌, ◌<◌}
 use native.Mathlib.Decide.{ℕ_discrete}
 use native.Mathlib.Omega.{arith}
-use Rattle.field.specs.Polynomial.{combination}
 use Rattle.linear.specs.Row.{RowElements, Agree, dot, plus, times}
 use Rattle.linear.specs.Scalars.{Scalars, ScalarLaws}
 use Rattle.linear.specs.System.{Canonical, Elements, Free, Combination, Inconsistent}

@@ -1,5 +1,7 @@
 // Linear equations over a small field, solved by Gauss-Jordan elimination in a lent buffer of bytes.
 // The augmented matrix lies row after row; its last column is the right side. Over the field of two elements a byte holds eight entries.
+#![tactic(auto)]
+
 mod bit_eliminating;
 pub mod bit_solving;
 mod eliminating;

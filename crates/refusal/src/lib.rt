@@ -1,4 +1,6 @@
 // The tests that operations share.
+#![tactic(auto)]
+
 ghost use Rattle.std.specs.Prelude.{◌≡◌, ◌<◌, leb, length};
 ghost use Rattle.refusal.specs.Range.{one_to};
 ghost use Rattle.refusal.specs.Large.{first_large};

@@ -1,11 +1,11 @@
 -- The laws of shapes: one program and then another, loops, and what a shape says of a run.
 use mathlib.Core.Path.{◌≡◌, refl, sym, ap, ap₂, ◌∙◌, subst}
 use mathlib.Core.List.{List, [], ◌∷◌, ◌++◌, map}
-use Prim.Native.Nat.{ℕ, zero, suc, ◌+◌, ◌-◌, ◌*◌, ◌≤◌, ◌<◌}
+use Prim.Native.Nat.{ℕ, zero, suc, ◌+◌, ◌-◌, ◌*◌, ◌^◌, ◌≤◌, ◌<◌}
 use native.Mathlib.Omega.{arith}
 use native.Mathlib.Nat.{suc-mul, zero-mul, zero-add}
 use lib.ListN.{length, replicate, drop, length-append, length-map, replicate-append-replicate}
-use Rattle.steps.specs.Program.{Touch, Run, return, ◌>>=◌, note, loop, for, first, later, Entry, result, trace, draws, products, rest}
+use Rattle.steps.specs.Program.{Touch, Run, return, step, draw, mark, ◌>>=◌, note, loop, for, first, later, Entry, result, trace, draws, products, rest}
 use Rattle.steps.specs.Choices.{Fits}
 use Rattle.steps.proofs.Program.{drop_later}
 use Rattle.steps.specs.Shape.{step_of, draw_of, marked, Shape, touches_of, bits_of, products_of, loop_shape, for_shape, steps_of, draws_of}
@@ -37,12 +37,30 @@ shaped_weaken (shaped_step h) k = shaped_step (shaped_weaken h k)
 shaped_weaken (shaped_draw h) k = shaped_draw (λ r l. shaped_weaken (h r l) k)
 shaped_weaken (shaped_mark h) k = shaped_mark (shaped_weaken h k)
 
+-- what is left of a shape and its program past the first event, by the program
+unfoldable Tail : {A : Type 0} → (A → Type 0) → Shape → Run A → Type 0
+Tail P σ (return a) = P a
+Tail P [] (step t v m) = Unit {0}
+Tail P (e ∷ σ) (step t v m) = Shaped P σ m
+Tail P [] (draw b k) = Unit {0}
+Tail P (e ∷ σ) (draw b k) = (r : ℕ) → r < 2 ^ b → Shaped P σ (k r)
+Tail P [] (mark m) = Unit {0}
+Tail P (e ∷ σ) (mark m) = Shaped P σ m
+
+tail_of : {A : Type 0} {P : A → Type 0} {σ : Shape} {m : Run A} → Shaped P σ m → Tail P σ m
+unfolding Tail
+tail_of (shaped_return p) = p
+tail_of (shaped_step h) = h
+tail_of (shaped_draw h) = h
+tail_of (shaped_mark h) = h
+
 -- two things that hold of the result
 pub shaped_both : {A : Type 0} {P Q : A → Type 0} {σ : Shape} {m : Run A} → Shaped P σ m → Shaped Q σ m → Shaped (λ a. P a × Q a) σ m
-shaped_both (shaped_return p) (shaped_return q) = shaped_return (p, q)
-shaped_both (shaped_step h) (shaped_step k) = shaped_step (shaped_both h k)
-shaped_both (shaped_draw h) (shaped_draw k) = shaped_draw (λ r l. shaped_both (h r l) (k r l))
-shaped_both (shaped_mark h) (shaped_mark k) = shaped_mark (shaped_both h k)
+unfolding Tail
+shaped_both (shaped_return p) q = shaped_return (p, tail_of q)
+shaped_both (shaped_step h) k = shaped_step (shaped_both h (tail_of k))
+shaped_both (shaped_draw h) k = shaped_draw (λ r l. shaped_both (h r l) (tail_of k r l))
+shaped_both (shaped_mark h) k = shaped_mark (shaped_both h (tail_of k))
 
 -- one step
 pub shaped_note : {P : ℕ → Type 0} (t : Touch) (v : ℕ) → P v → Shaped P (step_of t ∷ []) (note t v)

@@ -7,7 +7,7 @@ pub record SameLengths (key key' block block' random random' : List ℕ) : Type 
   pub same_key : length key ≡ length key'
   pub same_block : length block ≡ length block'
   pub same_random : length random ≡ length random'
-  pub key_bytes_lem : Small 8 key
+  pub key_bytes : Small 8 key
   pub key_bytes' : Small 8 key'
   pub block_bytes : Small 8 block
   pub block_bytes' : Small 8 block'

@@ -3,7 +3,7 @@ ghost use Rattle.std.specs.Prelude.{◌≡◌};
 ghost use Rattle.steps.specs.Machine.{zero_counts, with_steps};
 
 // What a run has taken so far: masked products, random elements and steps. The next step's number is `steps`.
-#[derive(Drop)]
+#[derive(Clone, Copy)]
 pub struct Counts {
     pub products: usize,
     pub random: usize,

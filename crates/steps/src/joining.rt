@@ -8,7 +8,7 @@ use crate::columns::column_sum;
 use refusal::one_to;
 
 // The answer of Join.
-#[derive(Drop)]
+#[derive(Clone, Copy)]
 pub enum JoinAnswer {
     Done,
     Refused { number: u8, place: usize },

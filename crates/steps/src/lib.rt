@@ -1,5 +1,7 @@
 // Steps of masked computations in code: the counts that a run carries, its random elements and its recorder.
 // The operations Split and Join are `splitting::split` and `joining::join`.
+#![tactic(auto)]
+
 mod columns;
 pub mod counts;
 pub mod drawing;

@@ -9,7 +9,7 @@ use crate::columns::column_sum;
 use refusal::one_to;
 
 // The answer of Split.
-#[derive(Drop)]
+#[derive(Clone, Copy)]
 pub enum SplitAnswer {
     Done,
     Refused { number: u8, place: usize },

@@ -1,1 +1,3 @@
 // Definitions and laws alone: addition of elements is the language's `^`.
+
+#![tactic(auto)]

@@ -1,0 +1,24 @@
+-- `field::pow` meets its contract. The invariant: the product is a to the power i.
+use mathlib.Core.Path.{◌≡◌, refl, ap, ◌∙◌}
+use native.Mathlib.Numerals.{add-one}
+use native.Mathlib.Omega.{arith}
+use Rattle.field.specs.Mul.{mul}
+use Rattle.field.specs.Power.{pow}
+use Rattle.field.proofs.pow.Goals as goal
+
+pub loop-i-init : goal.loop-i-init
+unfolding pow
+loop-i-init c = (omega arith, refl)
+
+pub mul-product-requires : goal.mul-product-requires
+mul-product-requires c = c.requires
+
+pub loop-i-preserved : goal.loop-i-preserved
+unfolding pow
+loop-i-preserved c =
+    (omega arith, rw (add-one c.loop-i.i) (c.mul-product.ensures ∙ ap (mul c.args.width c.args.a) c.loop-i.invariant.1))
+
+pub returns : goal.returns
+returns c =
+    let all : c.loop-i.i ≡ c.args.e = omega arith in
+    c.loop-i.invariant.1 ∙ ap (pow c.args.width c.args.a) all

@@ -1,4 +1,6 @@
 // The state of a masked block in bytes, and the layers of PRESENT on it: a block is a `[u8; 72]`, a key a `[u8; 90]`.
+#![tactic(auto)]
+
 pub mod bytes;
 pub mod permutation;
 pub mod share;

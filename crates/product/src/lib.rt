@@ -1,4 +1,6 @@
 // The masked product of two sharings. A sharing is held in nine bytes, 0 past the shares in use; of a longer slice only these count.
+#![tactic(auto)]
+
 ghost use Rattle.std.specs.Prelude.{◌≡◌, ◌+◌, ◌<◌, ◌≤◌, length};
 ghost use Rattle.field.specs.Mul.{Width, Narrow};
 ghost use Rattle.steps.specs.Program.{for};
@@ -12,7 +14,7 @@ use steps::Counts;
 pub mod bytes;
 
 // A sharing, with what the run has taken when it is made.
-#[derive(Drop)]
+#[derive(Clone, Copy)]
 pub struct Masked {
     pub shares: [u8; 9],
     pub counts: Counts,

@@ -34,9 +34,9 @@ pub table_holds : (v : ℕ) → v < 256 → get_or table v 0 ≡ substitute v
 unfolding substitute
 table_holds v l = by_chain v l ∙ ap (λ (x : ℕ). linear_part x ⊕ affine_constant) (sym (inverse_chain ring_8 v l))
 
-look_up : (v : ℕ) → look_up v ≡ substitute v
+look_up_is : (v : ℕ) → look_up v ≡ substitute v
 unfolding look_up
-look_up v = elim (dec_lt v 256) [
+look_up_is v = elim (dec_lt v 256) [
   | yes l ↦ rw (lt-ltb v 256 l) (table_holds v l)
   | no l ↦ rw (le-ltb v 256 (omega arith)) refl
 ]
@@ -49,5 +49,5 @@ vectors_by_table = refl
 -- THE EXAMPLES. The ciphertexts are the standard's.
 pub vectors_hold : map (λ (v : Vector). encrypt substitute v.key v.block) vectors ≡ map (λ (v : Vector). v.cipher) vectors
 vectors_hold =
-    let e : look_up ≡ substitute = fun_ext look_up in
+    let e : look_up ≡ substitute = fun_ext look_up_is in
     rw e at vectors_by_table

@@ -51,12 +51,12 @@ module _ (s : ℕ) {key key' block block' random random' : List ℕ} (h : SameLe
   unfolding block_outcome block_call
   block_answers out =
       call_answers (block_call s key block random) (block_call s key' block' random') (tests_alike s h)
-      (counts_figures s key block random h.key_bytes_lem h.block_bytes (elements_bytes random h.random_bytes))
+      (counts_figures s key block random h.key_bytes h.block_bytes (elements_bytes random h.random_bytes))
       (counts_figures s key' block' random' h.key_bytes' h.block_bytes' (elements_bytes random' h.random_bytes')) (eqb out (16 * s))
 
   pub watch_answers : (list : List ℕ) (values : ℕ) → watch_outcome s key block random list values ≡ watch_outcome s key' block' random' list values
   unfolding watch_outcome block_call
   watch_answers =
       call.watch_answers (block_call s key block random) (block_call s key' block' random') (tests_alike s h)
-      (counts_figures s key block random h.key_bytes_lem h.block_bytes (elements_bytes random h.random_bytes))
+      (counts_figures s key block random h.key_bytes h.block_bytes (elements_bytes random h.random_bytes))
       (counts_figures s key' block' random' h.key_bytes' h.block_bytes' (elements_bytes random' h.random_bytes')) refl

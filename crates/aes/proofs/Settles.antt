@@ -25,7 +25,7 @@ use Rattle.aes.proofs.Calls.{tests_passed, call_lengths_right}
 
 -- ---- calls of the right lengths are accepted
 
-module _ (s : ℕ) (some : 0 < s) (nine : s ≤ 9) (key block random : List ℕ) (key_bytes_lem : Small 8 key) (block_bytes : Small 8 block)
+module _ (s : ℕ) (some : 0 < s) (nine : s ≤ 9) (key block random : List ℕ) (key_bytes : Small 8 key) (block_bytes : Small 8 block)
     (key_length : length key ≡ 16 * s) (block_length : length block ≡ 16 * s)
     (random_length : length random ≡ bytes_for 8 (block_draws s)) (random_small : Small 8 (elements 8 random)) where
   tests_pass : call_tests s (length key) (length block) (length random) true ≡ done []
@@ -37,7 +37,7 @@ module _ (s : ℕ) (some : 0 < s) (nine : s ≤ 9) (key block random : List ℕ)
       )
 
   hands_back : HandsBack (block_call s key block random) (figures s)
-  hands_back = counts_figures s key block random key_bytes_lem block_bytes random_small
+  hands_back = counts_figures s key block random key_bytes block_bytes random_small
 
   -- AES block accepts a call of the right lengths, and hands back the figures;
   pub block_accepts : block_outcome s key block random (16 * s) ≡ done (figures s)

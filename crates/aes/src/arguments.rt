@@ -8,7 +8,7 @@ use refusal::one_to;
 use steps::bytes_for;
 
 // What the tests come to.
-#[derive(Drop)]
+#[derive(Clone, Copy)]
 pub enum Tested {
     Passed,
     Refused { number: u8, place: usize },

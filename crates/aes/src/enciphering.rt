@@ -9,7 +9,7 @@ use crate::encryption::{encrypt, store};
 use steps::bytes_for;
 
 // The answer of AES block: how many masked products, random bytes and steps it took.
-#[derive(Drop)]
+#[derive(Clone, Copy)]
 pub enum BlockAnswer {
     Done {
         products: usize,

@@ -15,7 +15,7 @@ use crate::substitution::sub_word;
 use steps::Counts;
 
 // A word in shares, with the number of the next step when it is made.
-#[derive(Drop)]
+#[derive(Clone, Copy)]
 pub struct Word {
     pub bytes: [u8; 36],
     pub next: u32,
@@ -156,7 +156,7 @@ fn next_keys(
 }
 
 // The key schedule of a key, with what the run has taken when it is made.
-#[derive(Drop)]
+#[derive(Clone, Copy)]
 pub struct Schedule {
     pub words: [u8; 1584],
     pub counts: Counts,

@@ -1,5 +1,7 @@
 // Masked AES-128. The operations AES block and Watch AES block are `enciphering::block` and `watching::watch_block`; both take their steps in
 // `encryption::encrypt`, whose parts are the modules `key_expansion`, `rounds`, `linear_parts`, `substitution`, `inversion` and `recording`.
+#![tactic(auto)]
+
 mod arguments;
 pub mod enciphering;
 mod encryption;

@@ -7,7 +7,7 @@ use crate::layers::{add_round_key, mix_columns, shift_rows};
 use crate::recording::record_string;
 
 // A string of 16 bytes in shares, with the number of the next step when it is made.
-#[derive(Drop)]
+#[derive(Clone, Copy)]
 pub struct Recorded {
     pub bytes: [u8; 144],
     pub next: u32,

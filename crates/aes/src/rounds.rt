@@ -11,7 +11,7 @@ use crate::substitution::sub_bytes;
 use steps::Counts;
 
 // The state in shares, with what the run has taken.
-#[derive(Drop)]
+#[derive(Clone, Copy)]
 pub struct State {
     pub bytes: [u8; 144],
     pub counts: Counts,

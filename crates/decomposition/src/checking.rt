@@ -11,7 +11,7 @@ use crate::reading::{ReadAnswer, head_of, layout_in, read};
 use refusal::first_large;
 
 // The answer of Check.
-#[derive(Drop)]
+#[derive(Clone, Copy)]
 pub enum CheckAnswer {
     Done,
     Refused { number: u8, place: usize },

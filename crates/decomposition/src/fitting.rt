@@ -10,7 +10,7 @@ use crate::layouts::{HEAD, Layout, known, layout_of, paired};
 use refusal::first_large;
 
 // The answer of Fit.
-#[derive(Drop)]
+#[derive(Clone, Copy)]
 pub enum FitAnswer {
     Done,
     Refused { number: u8, place: usize },
@@ -26,7 +26,7 @@ impl FitAnswer {
 }
 
 // The answer of House fit.
-#[derive(Drop)]
+#[derive(Clone, Copy)]
 pub enum HouseFitAnswer {
     Done,
     Refused { number: u8, place: usize },
@@ -69,7 +69,7 @@ fn find(layout: Layout, table: &[u8], basis: &[u8], work: &mut [u8], out: &mut [
     requires fit_ready { FitReady layout (record { table = table.now; basis = basis.now; work = work.old; out = out.old }) }
     ensures work_after { work.new ≡ replicate (length work.old) 0 }
     ensures found { Found layout
-        (record { table = table.entry.now; basis = basis.now; work = work.old; out = out.old })
+        (record { table = table.now; basis = basis.now; work = work.old; out = out.old })
         out.new (fit_report result) }
 {
     let start = HEAD + layout.basis;
@@ -122,9 +122,9 @@ fn fit_tests(layout: Layout, table: &[u8], basis: &[u8], work: usize, out: usize
 fn fit_at(layout: Layout, table: &[u8], basis: &[u8], work: &mut [u8], out: &mut [u8]) -> FitAnswer
     requires { Sizes layout }
     ensures { AfterTests layout
-        (record { table = table.entry.now; basis = basis.now; work = work.old; out = out.old })
+        (record { table = table.now; basis = basis.now; work = work.old; out = out.old })
         (record { outcome = fit_report result; work = work.new; out = out.new })
-        (fit_tests layout table.entry.now basis.now (length work.old) (length out.old)) }
+        (fit_tests layout table.now basis.now (length work.old) (length out.old)) }
 {
     let tested = fit_tests(layout, table, basis, work.len(), out.len());
     match tested {
@@ -143,7 +143,7 @@ pub fn fit(
     out: &mut [u8],
 ) -> FitAnswer
     ensures { record { outcome = fit_report result; work = work.new; out = out.new }
-        ≡ fit_end width outputs (record { table = table.entry.now; basis = basis.now; work = work.old; out = out.old }) }
+        ≡ fit_end width outputs (record { table = table.now; basis = basis.now; work = work.old; out = out.old }) }
 {
     if !known(width) {
         return FitAnswer::refuse(1, 0);

@@ -13,7 +13,7 @@ pub const SHORT_HEAD: usize = 6;
 pub const ROW: usize = 43;
 
 // How the coefficients of a record and the work of Fit lie in bytes.
-#[derive(Drop)]
+#[derive(Clone, Copy)]
 pub struct Layout {
     pub width: u32,
     // the output bits of the table

@@ -1,4 +1,6 @@
 // Decompositions of tables. The operations are `reading::read` and `checking::check` for their records, `fitting::fit` and `fitting::house_fit` to find them.
+#![tactic(auto)]
+
 mod bit_equations;
 pub mod checking;
 mod decomposing;

@@ -10,7 +10,7 @@ use crate::layouts::{HEAD, Layout, SHORT_HEAD, known, layout_of, paired};
 use refusal::first_large;
 
 // The answer of Read: the width.
-#[derive(Drop)]
+#[derive(Clone, Copy)]
 pub enum ReadAnswer {
     Done { width: u32 },
     Refused { number: u8, place: usize },

@@ -19,7 +19,7 @@ use Rattle.steps.proofs.Shape.{shaped_bind, shaped_map, shaped_weaken}
 use Rattle.product.specs.Product.{product, product_shape}
 use Rattle.product.proofs.Shape.{shaped_product}
 use Rattle.sbox.specs.Sbox.{factors, classes_after, powers}
-use Rattle.product.specs.ByShare.{nth, square, squares}
+use Rattle.product.specs.ByShare.{nth, squares}
 use Rattle.sbox.specs.Shape.{class_shape, powers_shape}
 use Rattle.product.specs.ByShare.{times, square_shape}
 use Rattle.product.proofs.ByShare.{shaped_square}

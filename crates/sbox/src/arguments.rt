@@ -12,7 +12,7 @@ use refusal::{first_large, one_to};
 use steps::{bytes_for, element_count, first_large_element};
 
 // What the tests come to: the record's width, or a refusal.
-#[derive(Drop)]
+#[derive(Clone, Copy)]
 pub enum Tested {
     Passed { width: u32 },
     Refused { number: u8, place: usize },

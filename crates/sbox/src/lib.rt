@@ -1,5 +1,7 @@
 // The masked S-box. The operations S-box and Watch S-box are `substituting::sbox` and `watching::watch_sbox`; both take their steps in `run`, whose parts,
 // on a table of sharings, are the modules from `evaluation` on.
+#![tactic(auto)]
+
 mod arguments;
 mod calling;
 mod evaluation;

@@ -9,7 +9,7 @@ use crate::calling::{call, copy_out};
 use steps::bytes_for;
 
 // The answer of S-box: how many masked products, random bytes and steps it took.
-#[derive(Drop)]
+#[derive(Clone, Copy)]
 pub enum SboxAnswer {
     Done {
         products: usize,

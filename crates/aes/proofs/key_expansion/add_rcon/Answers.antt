@@ -1,0 +1,18 @@
+-- `key_expansion::add_rcon` meets its contract.
+use mathlib.Core.Path.{ap}
+use Prim.Native.Nat.{ℕ}
+use Rattle.xor.specs.Xor.{◌⊕◌}
+use Rattle.rijndael.specs.Rijndael.{rcon}
+use Rattle.rijndael.specs.Strings.{byte_at}
+use Rattle.aes.proofs.Runs.{rcon_room, rcon_went}
+use Rattle.aes.proofs.key_expansion.add_rcon.Goals as goal
+
+pub record-next-requires : goal.record-next-requires
+record-next-requires c =
+    rcon_room c.args.r c.args.t.now c.requires.ready_steps
+
+pub returns : goal.returns
+unfolding ◌⊕◌ rcon
+returns c =
+    let recorded = c.record-next.ensures in
+    rcon_went c.args.r c.args.t.now _ _ _ (ap (λ (v : ℕ). byte_at c.args.t.now 0 ⊕ v) c.power_of_two.ensures) recorded.0 recorded.1

@@ -1,0 +1,15 @@
+-- `layers::shift_rows` meets its contract: a loop over the places of the shares.
+use borrow.Author.Rules.{rules}
+use Rattle.rijndael.specs.Strings.{make_shares}
+use Rattle.aes.proofs.Fills.{filling, filling_on, filled}
+use Rattle.aes.proofs.layers.shift_rows.Goals as goal
+
+pub loop-p-init : goal.loop-p-init
+loop-p-init c = filling _ _ _
+
+pub loop-p-preserved : goal.loop-p-preserved
+loop-p-preserved c = filling_on c.loop-p.invariant c.loop-p-test.true (search rules) c.shift_place.ensures
+
+pub returns : goal.returns
+unfolding make_shares
+returns c = filled c.loop-p.invariant c.loop-p-test.false

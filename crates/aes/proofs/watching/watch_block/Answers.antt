@@ -1,0 +1,34 @@
+-- `watching::watch_block` meets its contract: by what the tests come to.
+use mathlib.Core.List.{[]}
+use mathlib.Core.Path.{◌≡◌, sym, ap, ◌∙◌}
+use mathlib.Core.Bool.{◌&&◌, and-eq-true_iff}
+use borrow.Author.Tests.{eqb-true}
+use lib.Dec.{leb, eqb}
+use lib.ListN.{length}
+use Rattle.refusal.specs.Outcome.{done}
+use Rattle.refusal.proofs.Outcome.{refuses}
+use Rattle.steps.specs.Call as call
+use Rattle.aes.specs.Operations.{tested_report, call_tests, watch_outcome, block_call}
+use Rattle.aes.proofs.Calls.{tests_passed}
+use Rattle.aes.proofs.watching.watch_block.Goals as goal
+
+pub watch-requires : goal.watch-requires
+watch-requires c =
+    -- where the tests are passed
+    let tested : call_tests c.args.s (length c.args.key.now) (length c.args.block.now) (length c.args.random.now) (eqb (length c.args.list.now) (length c.args.values.now) && leb (length c.args.list.now) 64) ≡ done [] =
+    rw (← c.list_fits-fits.ensures) (sym c.call_tests-tested.ensures ∙ ap tested_report c.in-Passed.is) in
+    let p = tests_passed _ _ _ _ _ tested in
+    record { callable = p.0; list_len = eqb-true _ _ ((and-eq-true_iff _ _).0 p.1).0 }
+
+pub returns-in-Refused : goal.returns-in-Refused
+unfolding watch_outcome block_call call.watch_outcome
+returns-in-Refused c =
+    let e = sym c.call_tests-tested.ensures ∙ ap tested_report c.in-Refused.is in
+    refuses c.refuse.ensures (rw (← c.list_fits-fits.ensures, e))
+
+pub returns-in-Passed : goal.returns-in-Passed
+unfolding watch_outcome block_call call.watch_outcome
+returns-in-Passed c =
+    let tested : call_tests c.args.s (length c.args.key.now) (length c.args.block.now) (length c.args.random.now) (eqb (length c.args.list.now) (length c.args.values.now) && leb (length c.args.list.now) 64) ≡ done [] =
+    rw (← c.list_fits-fits.ensures) (sym c.call_tests-tested.ensures ∙ ap tested_report c.in-Passed.is) in
+    rw tested c.watch.ensures

@@ -51,7 +51,7 @@ module _ {f : ℕ → ℕ → ℕ} (c : Ciphering) (good : Good f c) where
     unfolding call_of
     calls_alike =
         call_answers (call_of c key block random) (call_of c key' block' random') (tests_alike c h)
-        (counts_figures key block random h.key_bytes_lem h.block_bytes h.random_bytes)
+        (counts_figures key block random h.key_bytes h.block_bytes h.random_bytes)
         (counts_figures key' block' random' h.key_bytes' h.block_bytes' h.random_bytes')
 
     pub watches_alike : (list : List ℕ) (values : ℕ)
@@ -59,7 +59,7 @@ module _ {f : ℕ → ℕ → ℕ} (c : Ciphering) (good : Good f c) where
     unfolding call_of
     watches_alike =
         call.watch_answers (call_of c key block random) (call_of c key' block' random') (tests_alike c h)
-        (counts_figures key block random h.key_bytes_lem h.block_bytes h.random_bytes)
+        (counts_figures key block random h.key_bytes h.block_bytes h.random_bytes)
         (counts_figures key' block' random' h.key_bytes' h.block_bytes' h.random_bytes') refl
 
 -- ---- of Block

@@ -33,7 +33,7 @@ use Rattle.cipher.proofs.OpenTheorems.{opening_good}
 -- ---- calls of the right lengths are accepted
 
 module _ {f : ℕ → ℕ → ℕ} (c : Ciphering) (good : Good f c) (records : c.records ≡ done []) (some : 0 < c.shares) (nine : c.shares ≤ 9)
-    (key block random : List ℕ) (key_bytes_lem : Small 8 key) (block_bytes : Small 8 block) (random_bytes : Small 8 random)
+    (key block random : List ℕ) (key_bytes : Small 8 key) (block_bytes : Small 8 block) (random_bytes : Small 8 random)
     (key_length : length key ≡ c.key_bytes * c.shares) (block_length : length block ≡ 8 * c.shares)
     (random_length : length random ≡ bytes_for 4 c.draws) where
   tests_pass : call_tests c key block random true ≡ done []
@@ -47,7 +47,7 @@ module _ {f : ℕ → ℕ → ℕ} (c : Ciphering) (good : Good f c) (records : 
       refl
 
   hands_back : HandsBack (call_of c key block random) (figures_for c)
-  hands_back = counts_figures c good key block random key_bytes_lem block_bytes random_bytes
+  hands_back = counts_figures c good key block random key_bytes block_bytes random_bytes
 
   -- An operation accepts every call of the right lengths, whatever the shares and the random bytes, and hands back the figures;
   pub accepts : call_spec.call_outcome (call_of c key block random) (eqb (8 * c.shares) (8 * c.shares)) ≡ done (figures_for c)
@@ -64,7 +64,7 @@ module _ {f : ℕ → ℕ → ℕ} (c : Ciphering) (good : Good f c) (records : 
 
 -- what a secret and a choice settle has the right lengths
 pub record Fitting (c : Ciphering) (key block random : List ℕ) : Type 0 where
-  pub key_bytes_lem : Small 8 key
+  pub key_bytes : Small 8 key
   pub block_bytes : Small 8 block
   pub random_bytes : Small 8 random
   pub key_length : length key ≡ c.key_bytes * c.shares
@@ -76,7 +76,7 @@ fitting c some key block random a =
     let keys = lent_first (settled_lents (inputs_of c) some a) in
     let blocks = lent_first (lent_rest (settled_lents (inputs_of c) some a)) in
     record {
-      key_bytes_lem = keys.1;
+      key_bytes = keys.1;
       block_bytes = blocks.1;
       random_bytes = small_elements 4 random (omega arith) a.choice.random_small;
       key_length = keys.0;
@@ -92,14 +92,14 @@ module _ {f : ℕ → ℕ → ℕ} (c : Ciphering) (good : Good f c) (records : 
   -- an operation accepts it,
   pub settled_accepts : call_spec.call_outcome (call_of c key block random) (eqb (8 * c.shares) (8 * c.shares)) ≡ done (figures_for c)
   settled_accepts =
-      accepts c good records some nine key block random fit.key_bytes_lem fit.block_bytes fit.random_bytes fit.key_length fit.block_length
+      accepts c good records some nine key block random fit.key_bytes fit.block_bytes fit.random_bytes fit.key_length fit.block_length
       fit.random_length
 
   -- and so does its watch
   pub settled_watch_accepts : (list : List ℕ) → length list ≤ 64 → ((k : ℕ) → get_or list k 0 < c.steps)
       → call_spec.watch_outcome (call_of c key block random) list (length list) ≡ done (figures_for c)
   settled_watch_accepts =
-      watch_accepting c good records some nine key block random fit.key_bytes_lem fit.block_bytes fit.random_bytes fit.key_length
+      watch_accepting c good records some nine key block random fit.key_bytes fit.block_bytes fit.random_bytes fit.key_length
       fit.block_length fit.random_length
 
 -- ---- from a call to a choice

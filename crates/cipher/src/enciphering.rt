@@ -10,7 +10,7 @@ use crate::encryption::encrypt;
 use steps::bytes_for;
 
 // The answer of Block: how many masked products, random bytes and steps it took.
-#[derive(Drop)]
+#[derive(Clone, Copy)]
 pub enum BlockAnswer {
     Done {
         products: usize,

@@ -16,7 +16,7 @@ use decomposition::head_of;
 use steps::Counts;
 
 // The sharing of a block, with what the run has taken.
-#[derive(Drop)]
+#[derive(Clone, Copy)]
 pub struct Ciphered {
     pub block: [u8; 72],
     pub counts: Counts,

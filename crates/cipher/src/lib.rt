@@ -1,6 +1,8 @@
 // Masked PRESENT-80. The operations Block and Watch block are `enciphering::block` and `watching::watch_block`; both take their steps in
 // `encryption::encrypt`, whose parts are the modules `rounds`, `linear_parts`, `substitution` and `recording`. Open and Watch open are `opening::open`
 // and `open_watching::watch_open`; both take their steps in `decryption::decrypt`, whose rounds are in `undoing`.
+#![tactic(auto)]
+
 mod arguments;
 mod decryption;
 pub mod enciphering;

@@ -14,7 +14,7 @@ use refusal::{first_past, list_fits};
 use steps::bytes_for;
 
 // The answer of Watch open: how many masked products, random bytes and steps it took.
-#[derive(Drop)]
+#[derive(Clone, Copy)]
 pub enum WatchOpenAnswer {
     Done {
         products: usize,

@@ -10,7 +10,7 @@ use crate::decryption::decrypt;
 use steps::bytes_for;
 
 // The answer of Open: how many masked products, random bytes and steps it took.
-#[derive(Drop)]
+#[derive(Clone, Copy)]
 pub enum OpenAnswer {
     Done {
         products: usize,

@@ -15,7 +15,7 @@ use crate::substitution::{sbox_layer, sbox_nibble};
 use steps::Counts;
 
 // The sharings of a block and of a key between two rounds, with what the run has taken.
-#[derive(Drop)]
+#[derive(Clone, Copy)]
 pub struct RoundState {
     pub block: [u8; 72],
     pub key: [u8; 90],

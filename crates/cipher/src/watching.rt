@@ -14,7 +14,7 @@ use refusal::{first_past, list_fits};
 use steps::bytes_for;
 
 // The answer of Watch block: how many masked products, random bytes and steps it took.
-#[derive(Drop)]
+#[derive(Clone, Copy)]
 pub enum WatchAnswer {
     Done {
         products: usize,

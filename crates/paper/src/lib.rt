@@ -1,1 +1,3 @@
 // The checks on paper: a table and a theorem, in specs/ and proofs/.
+
+#![tactic(auto)]

@@ -8,7 +8,7 @@ use crate::blocks::decrypt_blocks;
 use crate::lengths::lengths_fit;
 
 // The answer of Decrypt.
-#[derive(Drop)]
+#[derive(Clone, Copy)]
 pub enum DecryptAnswer {
     Done,
     Refused { number: u8, place: usize },

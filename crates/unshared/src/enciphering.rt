@@ -8,7 +8,7 @@ use crate::blocks::encrypt_blocks;
 use crate::lengths::lengths_fit;
 
 // The answer of Encrypt.
-#[derive(Drop)]
+#[derive(Clone, Copy)]
 pub enum EncryptAnswer {
     Done,
     Refused { number: u8, place: usize },

@@ -9,7 +9,7 @@ ghost use Rattle.unshared.specs.RoundKeys.{round_keys};
 use layers::bytes::number;
 
 // A key: its first 64 bits and the bits after them.
-#[derive(Drop)]
+#[derive(Clone, Copy)]
 pub struct Key {
     pub high: u64,
     pub low: u64,

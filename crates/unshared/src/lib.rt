@@ -1,5 +1,7 @@
 // PRESENT-80 without shares, both ways, by tables. The operations Encrypt and Decrypt are `enciphering::encrypt` and `deciphering::decrypt`; both
 // call `blocks`, which takes many blocks with one key.
+#![tactic(auto)]
+
 pub mod blocks;
 pub mod deciphering;
 mod decryption_table;

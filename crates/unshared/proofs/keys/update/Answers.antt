@@ -1,0 +1,16 @@
+-- `keys::update` meets its contract: rotation, S-box and round number, one after the other.
+use mathlib.Core.Path.{◌∙◌, ap}
+use Prim.Native.Nat.{ℕ}
+use Rattle.xor.specs.Xor.{◌⊕◌}
+use Rattle.present.specs.Present.{substitute, size80, on_top_nibbles, round_number, update_key}
+use Rattle.unshared.proofs.keys.update.Goals as goal
+
+pub returns : goal.returns
+unfolding update_key
+returns c =
+    record {
+      number = c.add_number.ensures.number
+          ∙ ap (λ (k : ℕ). k ⊕ round_number size80 c.args.r)
+          (c.substitute_top.ensures.number ∙ ap (on_top_nibbles substitute size80) c.rotate.ensures.number);
+      small = c.add_number.ensures.small;
+    }

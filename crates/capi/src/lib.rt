@@ -1,15 +1,17 @@
 // The C interface: the operations with slices as pointer and length, and the answer as four 64-bit words.
+#![tactic(auto)]
+
 ghost use Rattle.std.specs.Prelude.{◌≡◌, [], ◌∷◌, length};
 ghost use Rattle.steps.specs.Operations.{split_outcome, split_shares, join_outcome, join_shares};
 ghost use Rattle.decomposition.specs.Record.{read_outcome};
 ghost use Rattle.decomposition.specs.Check.{check_outcome};
 ghost use Rattle.decomposition.specs.Fit.{fit_end, house_end};
 ghost use Rattle.sbox.specs.Operations.{sbox_outcome, sbox_output, watch_outcome, watch_output};
-ghost use Rattle.cipher.specs.Operations.{block_outcome, block_output, watch_outcome as block·watchOutcome, watch_output as block·watchOutput};
+ghost use Rattle.cipher.specs.Operations.{block_outcome, block_output, watch_outcome as block_watch_outcome, watch_output as block_watch_output};
 ghost use Rattle.cipher.specs.OpenOperations.{open_outcome, open_output, watch_open_outcome, watch_open_output};
 ghost use Rattle.present.specs.Present.{size80};
 ghost use Rattle.unshared.specs.Operations.{unshared_outcome, encrypt_output, decrypt_output};
-ghost use Rattle.aes.specs.Operations.{block_outcome as aes·blockOutcome, block_output as aes·blockOutput, watch_outcome as aes·watchOutcome, watch_output as aes·watchOutput};
+ghost use Rattle.aes.specs.Operations.{block_outcome as aes_block_outcome, block_output as aes_block_output, watch_outcome as aes_watch_outcome, watch_output as aes_watch_output};
 ghost use Rattle.capi.specs.Words.{words, Reported, ReportedFit};
 
 use aes::{BlockAnswer as AesBlockAnswer, WatchAnswer as AesWatchAnswer};
@@ -62,7 +64,7 @@ pub extern "C" fn ll_fit(
     answer: &mut [u64; 4],
 )
     ensures { ReportedFit (fit_end width bits
-        (record { table = table.entry.now; basis = basis.now; work = work.old; out = «record».old }))
+        (record { table = table.now; basis = basis.now; work = work.old; out = «record».old }))
         answer.new work.new «record».new }
 {
     let a = decomposition::fit(width, bits, table, basis, work, record);
@@ -185,8 +187,8 @@ pub extern "C" fn ll_block_watch(
     answer: &mut [u64; 4],
 )
     ensures { Reported
-        (block·watchOutcome «record».now s key_shares.now block_shares.now random.now list.now (length values.old))
-        (block·watchOutput «record».now s key_shares.now block_shares.now random.now list.now)
+        (block_watch_outcome «record».now s key_shares.now block_shares.now random.now list.now (length values.old))
+        (block_watch_output «record».now s key_shares.now block_shares.now random.now list.now)
         values.old answer.new values.new }
 {
     let a = cipher::watch_block(record, s, key_shares, block_shares, random, list, values);
@@ -323,8 +325,8 @@ pub extern "C" fn ll_aes_block(
     answer: &mut [u64; 4],
 )
     ensures { Reported
-        (aes·blockOutcome s key_shares.now block_shares.now random.now (length out.old))
-        (aes·blockOutput s key_shares.now block_shares.now random.now)
+        (aes_block_outcome s key_shares.now block_shares.now random.now (length out.old))
+        (aes_block_output s key_shares.now block_shares.now random.now)
         out.old answer.new out.new }
 {
     let a = aes::block(s, key_shares, block_shares, random, out);
@@ -352,8 +354,8 @@ pub extern "C" fn ll_aes_block_watch(
     answer: &mut [u64; 4],
 )
     ensures { Reported
-        (aes·watchOutcome s key_shares.now block_shares.now random.now list.now (length values.old))
-        (aes·watchOutput s key_shares.now block_shares.now random.now list.now)
+        (aes_watch_outcome s key_shares.now block_shares.now random.now list.now (length values.old))
+        (aes_watch_output s key_shares.now block_shares.now random.now list.now)
         values.old answer.new values.new }
 {
     let a = aes::watch_block(s, key_shares, block_shares, random, list, values);

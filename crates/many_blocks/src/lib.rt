@@ -1,4 +1,6 @@
 // For bench/run alone: many blocks with one key as C functions, since C can call no inner function.
+#![tactic(auto)]
+
 ghost use Rattle.std.specs.Prelude.{◌≡◌};
 ghost use Rattle.steps.specs.Bytes.{from_bytes};
 ghost use Rattle.present.specs.Present.{size80, encrypt};

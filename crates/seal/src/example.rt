@@ -49,9 +49,7 @@ fn byte(i: usize) -> u8 {
 
 // Fills the bytes that stand for random ones, as the library takes no randomness by itself.
 pub fn fill(out: &mut [u8]) {
-    let mut i = 0;
-    while i < out.len() {
-        out[i] = byte(i);
-        i += 1;
+    for (i, place) in out.iter_mut().enumerate() {
+        *place = byte(i);
     }
 }

@@ -1,12 +1,9 @@
 // What is printed where an operation refuses.
-use crate::text;
+use std::io;
 
 // Prints the refusal with its number and place, and where they are explained.
-pub fn refused(operation: &[u8], number: u8, place: usize) {
-    text::print(operation);
-    text::print(b" refused: number ");
-    text::print_number(number as u64);
-    text::print(b", place ");
-    text::print_number(place as u64);
-    text::print(b" (docs/FORMATS.md, Refusals). This part stops here.\n");
+pub fn refused(rt: &impl Print, operation: &str, number: u8, place: usize) -> io::Result<()> {
+    println!(rt;
+        "{operation} refused: number {number}, place {place} (docs/FORMATS.md, Refusals). This part stops here."
+    )
 }

@@ -1,81 +1,60 @@
-// How the page is printed: words, numbers, and bytes in hex.
+// How the page is printed: counts, and bytes in hex.
 ghost use Rattle.std.specs.Prelude.{◌<◌};
 
-use libc::STDOUT_FILENO;
-
-// Prints words.
-pub fn print(words: &[u8]) {
-    io::write_all(STDOUT_FILENO, words);
-}
-
-// Prints a number, for step numbers and counts.
-pub fn print_number(n: u64) {
-    io::print_decimal(STDOUT_FILENO, n);
-}
+use std::io;
 
 // Prints a label and a number, as one line of a list of counts.
-pub fn print_count(label: &[u8], n: u64) {
-    print(label);
-    print_number(n);
-    print(b"\n");
-}
-
-// A byte as a number to print.
-fn wide(byte: u8) -> u64 {
-    byte as u64
+pub fn print_count(rt: &impl Print, label: &str, n: u64) -> io::Result<()> {
+    println!(rt; "{label}{n}")
 }
 
 // Prints an element as one digit, as it is a nibble.
-pub fn print_nibble(element: u8) {
-    io::print_hex(STDOUT_FILENO, wide(element), 1);
+pub fn print_nibble(rt: &impl Print, element: u8) -> io::Result<()> {
+    print!(rt; "{element:x}")
 }
 
 // Prints a byte as two digits, as vectors are published.
-fn print_byte(byte: u8) {
-    print(b" ");
-    io::print_hex(STDOUT_FILENO, wide(byte), 2);
+fn print_byte(rt: &impl Print, byte: u8) -> io::Result<()> {
+    print!(rt; " {byte:02x}")
 }
 
 // Prints a label and bytes on one line.
-pub fn print_row(label: &[u8], bytes: &[u8]) {
-    print(label);
-    let mut i = 0;
-    while i < bytes.len() {
-        print_byte(bytes[i]);
-        i += 1;
+pub fn print_row(rt: &impl Print, label: &str, bytes: &[u8]) -> io::Result<()> {
+    print!(rt; "{label}")?;
+    for byte in bytes {
+        print_byte(rt, *byte)?;
     }
-    print(b"\n");
+    println!(rt)
 }
 
 // Begins a line where byte i is the first of a share of n bytes.
-fn begin_share(i: usize, n: usize)
+fn begin_share(rt: &impl Print, i: usize, n: usize) -> io::Result<()>
     requires { 0 < n }
 {
     if i % n == 0 {
-        print(b"    share ");
-        print_number((i / n) as u64);
-        print(b" ");
+        print!(rt; "    share {} ", i / n)?;
     }
+    Ok(())
 }
 
 // Ends the line where i bytes end a share of n bytes.
-fn end_share(i: usize, n: usize)
+fn end_share(rt: &impl Print, i: usize, n: usize) -> io::Result<()>
     requires { 0 < n }
 {
     if i % n == 0 {
-        print(b"\n");
+        println!(rt)?;
     }
+    Ok(())
 }
 
 // Prints shares of n bytes, a line for each, so that nobody needs to count bytes to tell them apart.
-pub fn print_shares(n: usize, shares: &[u8])
+pub fn print_shares(rt: &impl Print, n: usize, shares: &[u8]) -> io::Result<()>
     requires { 0 < n }
 {
-    let mut i = 0;
-    while i < shares.len() {
-        begin_share(i, n);
-        print_byte(shares[i]);
-        i += 1;
-        end_share(i, n);
+    for (i, byte) in shares.iter().enumerate() {
+        begin_share(rt, i, n)?;
+        print_byte(rt, *byte)?;
+        end_share(rt, i + 1, n)?;
     }
+    Ok(())
 }

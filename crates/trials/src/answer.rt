@@ -3,7 +3,7 @@ use crate::fields::Field;
 use crate::numbers::number;
 
 // The number, 0 for done, and then the place or what is handed back.
-#[derive(Drop)]
+#[derive(Clone, Copy)]
 pub struct Answer {
     pub number: u64,
     pub first: u64,
@@ -12,7 +12,7 @@ pub struct Answer {
 }
 
 // What a case comes to. The next case begins at next.
-#[derive(Drop)]
+#[derive(Clone, Copy)]
 pub enum Trial {
     Agrees { next: usize },
     Differs { next: usize },

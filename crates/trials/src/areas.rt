@@ -8,10 +8,8 @@ pub fn lent<'a>(bytes: &[u8], space: &'a mut [u8]) -> &'a mut [u8] {
     if space.len() < n {
         return &mut space[0..0];
     }
-    let mut i = 0;
-    while i < n {
+    for i in 0..n {
         space[i] = bytes[i];
-        i += 1;
     }
     &mut space[0..n]
 }
@@ -22,11 +20,9 @@ pub fn lent_list<'a>(bytes: &[u8], space: &'a mut [u32]) -> &'a mut [u32] {
     if space.len() < n {
         return &mut space[0..0];
     }
-    let mut i = 0;
-    while i < n {
+    for i in 0..n {
         let at = 4 * i;
         space[i] = number32(&bytes[at..at + 4]);
-        i += 1;
     }
     &mut space[0..n]
 }
@@ -38,10 +34,8 @@ pub fn lent_filled<'a>(field: &[u8], space: &'a mut [u8]) -> &'a mut [u8] {
     if space.len() < n {
         return &mut space[0..0];
     }
-    let mut i = 0;
-    while i < n {
+    for i in 0..n {
         space[i] = byte;
-        i += 1;
     }
     &mut space[0..n]
 }
@@ -52,12 +46,10 @@ pub fn same_filled(bytes: &[u8], field: &[u8]) -> bool {
         return false;
     }
     let byte = filled_byte(field);
-    let mut i = 0;
-    while i < bytes.len() {
-        if bytes[i] != byte {
+    for x in bytes {
+        if *x != byte {
             return false;
         }
-        i += 1;
     }
     true
 }

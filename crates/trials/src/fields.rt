@@ -2,13 +2,13 @@
 use crate::numbers::length;
 
 // No slice of a case is longer.
-const LONGEST: usize = 65536;
+pub const LONGEST: usize = 65536;
 
 // No list of numbers of 4 bytes is longer.
 pub const LONGEST_LIST: usize = 16384;
 
 // The bytes of a field, from start up to end. Good: it and all fields before it are as they should be.
-#[derive(Drop)]
+#[derive(Clone, Copy)]
 pub struct Field {
     pub start: usize,
     pub end: usize,

@@ -1,5 +1,7 @@
 // Runs the library's operations on the cases of another implementation (tests/reference) and compares answers and outputs.
 // A line for each case file. Cases are counted from 0.
+#![tactic(auto)]
+
 mod answer;
 mod areas;
 mod fields;
@@ -24,50 +26,81 @@ mod try_sbox;
 mod try_sbox_watch;
 mod try_split;
 
+ghost use Rattle.std.specs.Prelude.{◌≤◌, length, IfOk};
+
 use operations::Operation;
+use std::io::Read;
+use std::rt::Files;
+use std::{fs, io};
 
 // More bytes than any case file has.
 const SPACE: usize = 393216;
 
-// Tries the cases of a file, and prints a line. Answers whether all agree.
-fn try_file(name: &[u8], path: &[u8], operation: Operation) -> bool {
-    let fd = os::open_read(path);
-    if fd < 0 {
-        os::fail(path);
-        return false;
+// Fills the space from a file, as far as the file goes, and answers how many bytes those are.
+fn read_full(rt: &impl Files, path: &str, space: &mut [u8]) -> io::Result<usize>
+    ensures { IfOk result (λ n. n ≤ length space.old) }
+{
+    let mut file = fs::open(rt, path)?;
+    let mut n = 0;
+    for _ in 0..space.len() {
+        let more = file.read(&mut space[n..])?;
+        if more == 0 {
+            return Ok(n);
+        }
+        n += more;
     }
-    let mut space = [0u8; SPACE];
-    let n = io::read_full(fd, &mut space);
-    libc::close(fd);
-    if n == SPACE {
-        report::report_long(name);
-        return false;
-    }
-    report::report(name, tally::try_cases(operation, &space[..n]))
+    Ok(n)
 }
 
-fn main() {
+// Tries the cases of a file, and prints a line. Answers whether all agree.
+fn try_file(
+    rt: &(impl Files + Print + Eprint),
+    name: &str,
+    path: &str,
+    operation: Operation,
+) -> io::Result<bool> {
+    let mut space = [0u8; SPACE];
+    let n = match read_full(rt, path, &mut space) {
+        Ok(n) => n,
+        Err(error) => {
+            eprintln!(rt; "{path}: {error}")?;
+            return Ok(false);
+        }
+    };
+    if n == SPACE {
+        report::report_long(rt, name)?;
+        return Ok(false);
+    }
+    report::report(rt, name, tally::try_cases(operation, &space[..n]))
+}
+
+fn main(rt: HostRuntime) -> io::Result<()> {
     let mut agree = true;
-    agree = agree & try_file(b"read", b"read.cases", Operation::Read);
-    agree = agree & try_file(b"check", b"check.cases", Operation::Check);
-    agree = agree & try_file(b"fit", b"fit.cases", Operation::Fit);
-    agree = agree & try_file(b"house_fit", b"house_fit.cases", Operation::HouseFit);
-    agree = agree & try_file(b"sbox", b"sbox.cases", Operation::Sbox);
-    agree = agree & try_file(b"sbox_watch", b"sbox_watch.cases", Operation::SboxWatch);
-    agree = agree & try_file(b"block", b"block.cases", Operation::Block);
-    agree = agree & try_file(b"block_watch", b"block_watch.cases", Operation::BlockWatch);
-    agree = agree & try_file(b"open", b"open.cases", Operation::Open);
-    agree = agree & try_file(b"open_watch", b"open_watch.cases", Operation::OpenWatch);
-    agree = agree & try_file(b"encrypt", b"encrypt.cases", Operation::Encrypt);
-    agree = agree & try_file(b"decrypt", b"decrypt.cases", Operation::Decrypt);
-    agree = agree & try_file(b"aes_block", b"aes_block.cases", Operation::AesBlock);
-    agree = agree
-        & try_file(
-            b"aes_block_watch",
-            b"aes_block_watch.cases",
-            Operation::AesBlockWatch,
-        );
-    agree = agree & try_file(b"split", b"split.cases", Operation::Split);
-    agree = agree & try_file(b"join", b"join.cases", Operation::Join);
-    report::report_all(agree);
+    agree &= try_file(&rt, "read", "read.cases", Operation::Read)?;
+    agree &= try_file(&rt, "check", "check.cases", Operation::Check)?;
+    agree &= try_file(&rt, "fit", "fit.cases", Operation::Fit)?;
+    agree &= try_file(&rt, "house_fit", "house_fit.cases", Operation::HouseFit)?;
+    agree &= try_file(&rt, "sbox", "sbox.cases", Operation::Sbox)?;
+    agree &= try_file(&rt, "sbox_watch", "sbox_watch.cases", Operation::SboxWatch)?;
+    agree &= try_file(&rt, "block", "block.cases", Operation::Block)?;
+    agree &= try_file(
+        &rt,
+        "block_watch",
+        "block_watch.cases",
+        Operation::BlockWatch,
+    )?;
+    agree &= try_file(&rt, "open", "open.cases", Operation::Open)?;
+    agree &= try_file(&rt, "open_watch", "open_watch.cases", Operation::OpenWatch)?;
+    agree &= try_file(&rt, "encrypt", "encrypt.cases", Operation::Encrypt)?;
+    agree &= try_file(&rt, "decrypt", "decrypt.cases", Operation::Decrypt)?;
+    agree &= try_file(&rt, "aes_block", "aes_block.cases", Operation::AesBlock)?;
+    agree &= try_file(
+        &rt,
+        "aes_block_watch",
+        "aes_block_watch.cases",
+        Operation::AesBlockWatch,
+    )?;
+    agree &= try_file(&rt, "split", "split.cases", Operation::Split)?;
+    agree &= try_file(&rt, "join", "join.cases", Operation::Join)?;
+    report::report_all(&rt, agree)
 }

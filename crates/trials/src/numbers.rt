@@ -7,10 +7,8 @@ fn wide(x: u8) -> u64 {
 // The number that the bytes make, high first, modulo 2^64.
 pub fn number(bytes: &[u8]) -> u64 {
     let mut n: u64 = 0;
-    let mut i = 0;
-    while i < bytes.len() {
-        n = (n << 8) | wide(bytes[i]);
-        i += 1;
+    for byte in bytes {
+        n = (n << 8) | wide(*byte);
     }
     n
 }

@@ -17,7 +17,7 @@ use crate::try_sbox::try_sbox;
 use crate::try_sbox_watch::try_sbox_watch;
 use crate::try_split::try_split;
 
-#[derive(Drop)]
+#[derive(Clone, Copy)]
 pub enum Operation {
     Read,
     Check,

@@ -1,61 +1,44 @@
 // What is printed of a file.
 use crate::tally::Tally;
-use libc::STDOUT_FILENO;
-
-fn print(text: &[u8]) {
-    io::write_all(STDOUT_FILENO, text);
-}
-
-fn print_number(n: u64) {
-    io::print_decimal(STDOUT_FILENO, n);
-}
+use std::io;
 
 // Prints how many cases agree, and the first that differs if some do. Answers whether all agree.
-fn report_tried(cases: u64, agreed: u64, first: u64) -> bool {
-    print_number(agreed);
-    print(b" of ");
-    print_number(cases);
-    print(b" cases agree");
+fn report_tried(rt: &impl Print, cases: u64, agreed: u64, first: u64) -> io::Result<bool> {
+    print!(rt; "{agreed} of {cases} cases agree")?;
     if agreed == cases {
-        print(b"\n");
-        return true;
+        println!(rt)?;
+        return Ok(true);
     }
-    print(b"; the first that differs is case ");
-    print_number(first);
-    print(b"\n");
-    false
+    println!(rt; "; the first that differs is case {first}")?;
+    Ok(false)
 }
 
 // Prints a line. Answers whether all cases agree.
-pub fn report(name: &[u8], tally: Tally) -> bool {
-    print(name);
-    print(b": ");
+pub fn report(rt: &impl Print, name: &str, tally: Tally) -> io::Result<bool> {
+    print!(rt; "{name}: ")?;
     match tally {
         Tally::Tried {
             cases,
             agreed,
             first,
-        } => report_tried(cases, agreed, first),
+        } => report_tried(rt, cases, agreed, first),
         Tally::Malformed { case } => {
-            print(b"the file is malformed at case ");
-            print_number(case);
-            print(b"\n");
-            false
+            println!(rt; "the file is malformed at case {case}")?;
+            Ok(false)
         }
     }
 }
 
 // Prints a line for a file that does not fit the space for it.
-pub fn report_long(name: &[u8]) {
-    print(name);
-    print(b": the file is too long\n");
+pub fn report_long(rt: &impl Print, name: &str) -> io::Result<()> {
+    println!(rt; "{name}: the file is too long")
 }
 
 // Prints the last line.
-pub fn report_all(agree: bool) {
+pub fn report_all(rt: &impl Print, agree: bool) -> io::Result<()> {
     if agree {
-        print(b"all cases agree\n");
+        println!(rt; "all cases agree")
     } else {
-        print(b"not all cases agree\n");
+        println!(rt; "not all cases agree")
     }
 }

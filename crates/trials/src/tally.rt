@@ -5,7 +5,7 @@ use crate::operations::{Operation, try_case};
 
 // What a file comes to: how many cases agree, and the first that differs if some do; or the case at which the file is malformed,
 // the number of cases where bytes are left over after them.
-#[derive(Drop)]
+#[derive(Clone, Copy)]
 pub enum Tally {
     Tried { cases: u64, agreed: u64, first: u64 },
     Malformed { case: u64 },
@@ -25,10 +25,8 @@ pub fn try_cases(operation: Operation, file: &[u8]) -> Tally {
     let mut agreed: u64 = 0;
     let mut first = cases;
     let mut at: usize = 4;
-    let mut i: u64 = 0;
-    while i < cases {
-        let t = try_case(operation, file, at);
-        match t {
+    for i in 0..cases {
+        match try_case(operation, file, at) {
             Trial::Agrees { next } => {
                 agreed += 1;
                 at = next;
@@ -43,7 +41,6 @@ pub fn try_cases(operation: Operation, file: &[u8]) -> Tally {
                 return Tally::Malformed { case: i };
             }
         }
-        i += 1;
     }
     if at != file.len() {
         return Tally::Malformed { case: cases };

@@ -1,5 +1,5 @@
 // Cases of Watch block.
-use crate::fields::{LONGEST_LIST, before, next, next_list, next_of, part};
+use crate::fields::{LONGEST, LONGEST_LIST, before, next, next_list, next_of, part};
 use crate::{answer, areas, numbers};
 use cipher::{WatchAnswer, watch_block};
 
@@ -25,7 +25,7 @@ pub fn try_block_watch(file: &[u8], at: usize) -> answer::Trial {
     let expected = next_of(32, file, values_before);
     let values_after = next(file, expected);
     let mut list_space = [0u32; LONGEST_LIST];
-    let mut space = io::large_buffer();
+    let mut space = [0u8; LONGEST];
     let list = areas::lent_list(part(file, steps), &mut list_space);
     let values = areas::lent(part(file, values_before), &mut space);
     let a = watch_block(
@@ -38,6 +38,6 @@ pub fn try_block_watch(file: &[u8], at: usize) -> answer::Trial {
         &mut *values,
     );
     let answered = answer::same_answer(part(file, expected), answer_of(a));
-    let wrote = check::same(values, part(file, values_after));
+    let wrote = *values == *part(file, values_after);
     answer::tried(values_after, answered & wrote)
 }

@@ -1,5 +1,5 @@
 // Cases of House fit.
-use crate::fields::{before, next, next_filled, next_of, part};
+use crate::fields::{LONGEST, before, next, next_filled, next_of, part};
 use crate::{answer, areas};
 use decomposition::{HouseFitAnswer, house_fit};
 
@@ -17,13 +17,13 @@ pub fn try_house_fit(file: &[u8], at: usize) -> answer::Trial {
     let expected = next_of(32, file, out_before);
     let work_after = next_filled(file, expected);
     let out_after = next(file, work_after);
-    let mut work_space = io::large_buffer();
-    let mut out_space = io::large_buffer();
+    let mut work_space = [0u8; LONGEST];
+    let mut out_space = [0u8; LONGEST];
     let work = areas::lent_filled(part(file, work_before), &mut work_space);
     let out = areas::lent(part(file, out_before), &mut out_space);
     let a = house_fit(part(file, table), &mut *work, &mut *out);
     let answered = answer::same_answer(part(file, expected), answer_of(a));
     let worked = areas::same_filled(work, part(file, work_after));
-    let wrote = check::same(out, part(file, out_after));
+    let wrote = *out == *part(file, out_after);
     answer::tried(out_after, answered & worked & wrote)
 }

@@ -1,5 +1,5 @@
 // Cases of Watch open.
-use crate::fields::{LONGEST_LIST, before, next, next_list, next_of, part};
+use crate::fields::{LONGEST, LONGEST_LIST, before, next, next_list, next_of, part};
 use crate::{answer, areas, numbers};
 use cipher::{WatchOpenAnswer, watch_open};
 
@@ -26,7 +26,7 @@ pub fn try_open_watch(file: &[u8], at: usize) -> answer::Trial {
     let expected = next_of(32, file, values_before);
     let values_after = next(file, expected);
     let mut list_space = [0u32; LONGEST_LIST];
-    let mut space = io::large_buffer();
+    let mut space = [0u8; LONGEST];
     let list = areas::lent_list(part(file, steps), &mut list_space);
     let values = areas::lent(part(file, values_before), &mut space);
     let a = watch_open(
@@ -40,6 +40,6 @@ pub fn try_open_watch(file: &[u8], at: usize) -> answer::Trial {
         &mut *values,
     );
     let answered = answer::same_answer(part(file, expected), answer_of(a));
-    let wrote = check::same(values, part(file, values_after));
+    let wrote = *values == *part(file, values_after);
     answer::tried(values_after, answered & wrote)
 }

@@ -1,23 +1,26 @@
 -- The laws of calls: the arguments that pass the tests, and what a run hands back and writes.
-use mathlib.Core.Path.{◌≡◌, refl, ap}
-use mathlib.Core.Bool.{Bool, true, ◌&&◌, and-eq-true_iff}
+use mathlib.Core.Path.{◌≡◌, refl, sym, ap, ◌∙◌}
+use mathlib.Core.Bool.{Bool, true, false, ◌&&◌, and-eq-true_iff}
 use mathlib.Core.List.{List, [], ◌∷◌}
 use Prim.Native.Nat.{ℕ, ◌*◌, ◌≤◌, ◌<◌}
 use native.Mathlib.Omega.{arith}
-use borrow.Author.Tests.{eq-eqb, eqb-true}
-use lib.Dec.{eqb}
+use native.Mathlib.Decide.{dec_lt}
+use borrow.Author.Tests.{eq-eqb, eqb-true, lt-leb}
+use lib.Dec.{eqb, leb}
+use Rattle.std.specs.Prelude.{Option, Some, None}
 use lib.ListN.{length}
 use Rattle.xor.specs.Sum.{Small}
 use Rattle.refusal.specs.Outcome.{done}
 use Rattle.refusal.specs.Range.{one_to}
-use Rattle.refusal.specs.Large.{first_large}
+use Rattle.refusal.specs.Large.{first_large, found}
 use Rattle.refusal.proofs.Outcome.{passed}
+use Rattle.refusal.proofs.Large.{found_one, found_none}
 use Rattle.refusal.proofs.Range.{one_to_range}
 use Rattle.steps.specs.declared.counts.Counts.{Counts}
 use Rattle.steps.specs.Fill.{tabulate}
 use Rattle.steps.specs.Tape.{elements, bytes_for, Full}
 use Rattle.steps.specs.Operations.{join_shares}
-use Rattle.steps.specs.Machine.{zero_counts, Ready, Went, Whole}
+use Rattle.steps.specs.Machine.{State, start_of, Ready, Went, Whole}
 use Rattle.steps.specs.Call.{call_counts, Takes}
 use Rattle.steps.proofs.Call as call
 use Rattle.product.proofs.Counts.{few_pairs}
@@ -26,6 +29,12 @@ use Rattle.rijndael.proofs.Loaded.{shared_loaded}
 use Rattle.aes.specs.Figures.{block_products, block_draws, block_steps}
 use Rattle.aes.specs.Operations.{call_program, block_call, block_lengths, call_tests, block_output, watch_output, Callable}
 use Rattle.aes.proofs.Theorems.{takes}
+
+none_is_not_some : {n : ℕ} → ◌≡◌ {A = Option ℕ} None (Some n) → ⊥
+none_is_not_some h = let z : ◌≡◌ {A = ℕ} 0 1 = cc in absurd (omega arith)
+
+same_place : {m n : ℕ} → ◌≡◌ {A = Option ℕ} (Some m) (Some n) → m ≡ n
+same_place h = cc
 
 few_taken : (s : ℕ) → s ≤ 9 → (block_products < 2000) × (block_draws s < 40000) × (block_steps s < 1000000)
 unfolding block_products block_draws block_steps
@@ -65,6 +74,25 @@ tests_passed s key block random fits e =
       j.1,
     )
 
+-- ---- the step numbers of a watch
+
+-- a search that has found a number that is no step's, and one that has found none
+pub place_found : (total : ℕ) (list : List ℕ) {place : ℕ} → found (first_large total list) (length list) ≡ Some place
+    → (leb (length list) (first_large total list) ≡ false) × (first_large total list ≡ place)
+place_found total list {place} e = go (dec_lt (first_large total list) (length list))
+  where
+    go : Dec (first_large total list < length list) → (leb (length list) (first_large total list) ≡ false) × (first_large total list ≡ place)
+    go (yes h) = (lt-leb _ _ h, same_place (sym (found_one h) ∙ e))
+    go (no h) = absurd (none_is_not_some (sym (found_none (omega arith)) ∙ e))
+
+pub none_past : (total : ℕ) (list : List ℕ) → ((place : ℕ) → found (first_large total list) (length list) ≡ Some place → ⊥)
+    → length list ≤ first_large total list
+none_past total list none = go (dec_lt (first_large total list) (length list))
+  where
+    go : Dec (first_large total list < length list) → length list ≤ first_large total list
+    go (yes h) = absurd (none _ (found_one h))
+    go (no h) = omega arith
+
 -- ---- its run
 
 module _ {s : ℕ} {key block random : List ℕ} (a : Callable s key block random) where
@@ -77,7 +105,8 @@ module _ {s : ℕ} {key block random : List ℕ} (a : Callable s key block rando
         (shared_loaded 16 s key a.nine a.key_length hk) (shared_loaded 16 s block a.nine a.block_length hb) hr
 
     -- it may run
-    pub call_ready : {watch vs : List ℕ} → length watch ≡ length vs → Ready (elements 8 random) watch (call_program s key block) zero_counts vs
+    pub call_ready : {watch vs : List ℕ} → length watch ≡ length vs
+        → Ready (call_program s key block) (start_of (elements 8 random) watch vs)
     unfolding block_call
     call_ready e =
         let few = few_taken s a.nine in
@@ -88,8 +117,8 @@ module _ {s : ℕ} {key block random : List ℕ} (a : Callable s key block rando
     unfolding block_steps
     some_steps = omega arith
 
-    pub call_watched : {list vs x vs' : List ℕ} {c : Counts} → length list ≡ length vs → length list ≤ first_large (block_steps s) list
-        → Went (elements 8 random) list (call_program s key block) zero_counts vs x c vs' → vs' ≡ watch_output s key block random list
+    pub call_watched : {list vs x : List ℕ} {st : State} → length list ≡ length vs → length list ≤ first_large (block_steps s) list
+        → Went (call_program s key block) (start_of (elements 8 random) list vs) x st → st.values ≡ watch_output s key block random list
     unfolding watch_output block_call
     call_watched e below w = call.call_watched (block_call s key block random) call_takes some_steps e below w
 

@@ -1,26 +1,67 @@
--- A buffer that is filled by a loop: its beginning, a turn and its end.
-use mathlib.Core.Path.{◌≡◌, ap, ◌∙◌}
-use mathlib.Core.List.{List}
-use Prim.Native.Nat.{ℕ, ◌+◌, ◌≤◌, ◌<◌}
+-- Strings that are filled place by place, and parts that are copied into them.
+use mathlib.Core.Path.{◌≡◌, sym, ap, ◌∙◌}
+use mathlib.Core.List.{List, [], ◌++◌}
+use Prim.Native.Nat.{ℕ, zero, suc, ◌+◌, ◌≤◌, ◌<◌}
+use native.Mathlib.Decide.{dec_lt}
+use native.Mathlib.Nat.{add-zero}
 use native.Mathlib.Omega.{arith}
-use lib.ListN.{length, set}
-use Rattle.steps.specs.Fill.{fill}
-use Rattle.steps.proofs.Fill.{length_fill, fill_none, fill_more}
+use lib.ListN.{length, get_or, set, take, drop, replicate, length-replicate, length-drop, get_or-eq_default, take-append-drop}
+use lib.Seq.{ext_get_or, paste, paste-suc, get_or-drop, get_or-take, length-take-le}
+use Rattle.std.proofs.lemmas.List.{append-nil}
+use Rattle.std.proofs.lemmas.Slice.{put_mid-paste}
+use borrow.Rule.Slice.PartMut.{put_mid}
+use Rattle.steps.specs.Fill.{tabulate, fill}
+use Rattle.steps.proofs.Fill.{length_fill, length_tabulate, tabulate_same, tabulate_get_or, get_or_fill, get_or_fill_past, get_d_tabulate}
+use Rattle.steps.proofs.Sharing.{share_zeros}
+use Rattle.rijndael.specs.Strings.{byte_at, put_places, loaded}
 
--- The loop has come to i of n places: the first i hold f 0, f 1 .., the others what they held in l.
-pub record Filling (l : List ℕ) (f : ℕ → ℕ) (n i : ℕ) (c : List ℕ) : Type 0 where
-  pub upto : i ≤ n
-  pub holds : c ≡ fill i f l
+-- ---- parts that are copied
 
-pub filling : (l : List ℕ) (f : ℕ → ℕ) (n : ℕ) → Filling l f n 0 l
-filling l f n = record { upto = omega arith; holds = fill_none f l }
+-- n bytes that are put one by one are copied
+placed : (a : List ℕ) (at : ℕ) (b : List ℕ) (v : ℕ → ℕ) (n : ℕ) → ((k : ℕ) → k < n → get_or b k 0 ≡ v k) → at + n ≤ length a → n ≤ length b
+    → paste a at b n ≡ put_places at n v a
+unfolding put_places
+placed a at b v zero h la lb =
+    ap (λ (q : ℕ). take at a ++ [] ++ drop q a) (add-zero at) ∙ ap (λ (x : List ℕ). x ++ drop at a) (append-nil (take at a)) ∙ take-append-drop at a
+placed a at b v (suc n) h la lb =
+    let one_less : paste a at b n ≡ put_places at n v a = placed a at b v n (λ k l. h k (omega arith)) (omega arith) (omega arith) in
+    sym (paste-suc a at b n 0 (omega arith) (omega arith)) ∙ rw (h n (omega arith)) (ap (λ (x : List ℕ). set x (at + n) (v n)) one_less)
 
-pub filling_on : {l : List ℕ} {f : ℕ → ℕ} {n i : ℕ} {c : List ℕ} {v : ℕ} → Filling l f n i c → i < n → n ≤ length l → v ≡ f i
-    → Filling l f n (i + 1) (set c i v)
-filling_on {l} {f} {n} {i} {c} {v} h k room e = record { upto = omega arith; holds = rw (h.holds, e) (fill_more i f l (omega arith)) }
+-- a copy of the n bytes of b from number `from` on, to the places of a from `at` on
+pub put_copied : (a b : List ℕ) (at n from : ℕ) {ys : List ℕ} {j k : ℕ} → at + n ≤ length a → from + n ≤ length b → j ≡ n → k ≡ n
+    → ys ≡ take j (drop from b) → put_mid at k a ys ≡ put_places at n (λ i. get_or b (from + i) 0) a
+put_copied a b at n from {ys} {j} {k} la lb ej ek e =
+    let part : List ℕ = take n (drop from b) in
+    let l : length part ≡ n = length-take-le n (drop from b) (omega (arith, length-drop from b)) in
+    put_mid-paste at k a ys part n (e ∙ ap (λ (q : ℕ). take q (drop from b)) ej) (sym ek) (sym l)
+    ∙ placed a at part (λ i. get_or b (from + i) 0) n (λ i h. get_or-take n (drop from b) i 0 h ∙ get_or-drop from b i 0) la (omega (arith, l))
 
-pub filled : {l : List ℕ} {f : ℕ → ℕ} {n i : ℕ} {c : List ℕ} → Filling l f n i c → n ≤ i → c ≡ fill n f l
-filled {l} {f} {n} {i} {c} h k = let p : i ≡ n = omega (arith, h.upto) in h.holds ∙ ap (λ (j : ℕ). fill j f l) p
+-- ---- a string that is loaded
 
-pub filling_length : {l : List ℕ} {f : ℕ → ℕ} {n i : ℕ} {c : List ℕ} → Filling l f n i c → n ≤ length l → length c ≡ length l
-filling_length {l} {f} {n} {i} {c} h room = ap length h.holds ∙ length_fill i f l (omega (arith, h.upto))
+-- what is copied to the start of zeros
+pub loaded_copy : (a : List ℕ) → length a ≤ 144 → a ++ drop (length a) (replicate 144 0) ≡ loaded 16 a
+unfolding loaded fill
+loaded_copy a h =
+    let n : ℕ = length a in
+    let zeros : List ℕ = replicate 144 0 in
+    let all : length zeros ≡ 144 = length-replicate {A = ℕ} 144 0 in
+    let same : length (fill n (byte_at a) zeros) ≡ 144 = length_fill n (byte_at a) zeros (omega (arith, all)) ∙ all in
+    let left : a ++ drop n zeros ≡ fill n (byte_at a) zeros = ap (λ (x : List ℕ). x ++ drop n zeros) (sym (tabulate_get_or a 0)) in
+    left ∙ ext_get_or 0 (fill n (byte_at a) zeros) (tabulate 144 (byte_at a))
+    (same ∙ sym (length_tabulate 144 (byte_at a)))
+    (λ p l. go p (dec_lt p n) ∙ sym (get_d_tabulate 144 (byte_at a) p 0 (omega (arith, l, same))))
+  where
+    go : (p : ℕ) → Dec (p < length a) → get_or (fill (length a) (byte_at a) (replicate 144 0)) p 0 ≡ byte_at a p
+    go p (yes k) = get_or_fill (length a) (byte_at a) (replicate 144 0) p 0 k
+    go p (no k) =
+        get_or_fill_past (length a) (byte_at a) (replicate 144 0) p 0 (omega arith)
+        ∙ share_zeros 144 p ∙ sym (get_or-eq_default a 0 {n = p} (omega arith))
+
+-- ---- places that are copied out
+
+-- the first n bytes of a string
+pub first_bytes : (n : ℕ) (a : List ℕ) → n ≤ length a → take n a ≡ tabulate n (byte_at a)
+first_bytes n a h =
+    sym (tabulate_get_or (take n a) 0)
+    ∙ ap (λ (m : ℕ). tabulate m (byte_at (take n a))) (length-take-le n a h)
+    ∙ tabulate_same n (byte_at (take n a)) (byte_at a) (λ i l. get_or-take n a i 0 l)

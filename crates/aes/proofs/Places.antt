@@ -53,15 +53,16 @@ unfolding shift_byte
 shift_place a p h = ap (λ (q : ℕ). get_or a q 0) (shift_index p h)
 
 -- twice and three times a byte
-twice : (v : ℕ) → v < 2 ^ 8 → double 8 v ≡ mul 8 2 v
+pub twice : (v : ℕ) → v < 2 ^ 8 → double 8 v ≡ mul 8 2 v
 twice v h = sym (mul_comm 8 2 v (lit< tt) h ∙ mul_y ring_8 v)
 
 thrice : (v : ℕ) → v < 2 ^ 8 → double 8 v ⊕ v ≡ mul 8 3 v
 unfolding ◌⊕◌
 thrice v h = ap₂ ◌⊕◌ (twice v h) (sym (mul_one_left ring_8 v h)) ∙ sym (⊕-mul 8 2 1 v)
 
-pub mixture : (a b c d t u : ℕ) → a < 2 ^ 8 → b < 2 ^ 8 → t ≡ double 8 a → u ≡ double 8 b
-    → t ⊕ (u ⊕ b) ⊕ c ⊕ d ≡ mul 8 2 a ⊕ mul 8 3 b ⊕ c ⊕ d
+pub mixture : (a b c d t u : ℕ) → a < 256 → b < 256 → t ≡ double 8 a → u ≡ double 8 b
+    → bit_xor (bit_xor (bit_xor t (bit_xor u b)) c) d ≡ mul 8 2 a ⊕ mul 8 3 b ⊕ c ⊕ d
+unfolding ◌⊕◌
 mixture a b c d t u ha hb et eu =
     ap₂ (λ (x y : ℕ). x ⊕ y ⊕ c ⊕ d) (et ∙ twice a ha) (ap (λ (v : ℕ). v ⊕ b) eu ∙ thrice b hb)
 
@@ -75,11 +76,12 @@ mix_place a p h =
     (ap (λ (q : ℕ). get_or a q 0) (mix_further 2 (omega arith) p h)))
     (ap (λ (q : ℕ). get_or a q 0) (mix_further 3 (omega arith) p h))
 
-pub key_place : (r : ℕ) (w a : List ℕ) (p : ℕ) → get_or a p 0 ⊕ get_or w (p / 16 * 176 + (16 * r + p % 16)) 0 ≡ place_of 16 176 16 (key_byte r) a w p
-unfolding key_byte
+pub key_place : (r : ℕ) (w a : List ℕ) (p : ℕ)
+    → bit_xor (get_or a p 0) (get_or w (p / 16 * 176 + (16 * r + p % 16)) 0) ≡ place_of 16 176 16 (key_byte r) a w p
+unfolding key_byte ◌⊕◌
 key_place r w a p =
     let e : p ≡ p / 16 * 16 + p % 16 = omega arith in
-    ap (λ (q : ℕ). get_or a q 0 ⊕ get_or w (p / 16 * 176 + (16 * r + p % 16)) 0) e
+    ap (λ (q : ℕ). bit_xor (get_or a q 0) (get_or w (p / 16 * 176 + (16 * r + p % 16)) 0)) e
 
 pub rot_place : (r : ℕ) (w : List ℕ) (p : ℕ) → get_or w (p / 4 * 176 + (16 * r - 4 + (p + 1) % 4)) 0 ≡ place_of 176 0 4 (rot_byte r) w [] p
 unfolding rot_byte
@@ -88,11 +90,11 @@ rot_place r w p =
     ap (λ (q : ℕ). get_or w (p / 4 * 176 + (16 * r - 4 + q)) 0) e
 
 pub word_place : (i : ℕ) (w t : List ℕ) (p : ℕ)
-    → get_or w (p / 4 * 176 + (4 * i - 16 + p % 4)) 0 ⊕ get_or t p 0 ≡ place_of 176 4 4 (word_byte i) w t p
-unfolding word_byte
+    → bit_xor (get_or w (p / 4 * 176 + (4 * i - 16 + p % 4)) 0) (get_or t p 0) ≡ place_of 176 4 4 (word_byte i) w t p
+unfolding word_byte ◌⊕◌
 word_place i w t p =
     let e : p ≡ p / 4 * 4 + p % 4 = omega arith in
-    ap (λ (q : ℕ). get_or w (p / 4 * 176 + (4 * i - 16 + p % 4)) 0 ⊕ get_or t q 0) e
+    ap (λ (q : ℕ). bit_xor (get_or w (p / 4 * 176 + (4 * i - 16 + p % 4)) 0) (get_or t q 0)) e
 
 pub take_place : (m j : ℕ) (a : List ℕ) (i : ℕ) → get_or a (i * m + j) 0 ≡ place_of m 0 1 (take_at j) a [] i
 unfolding take_at

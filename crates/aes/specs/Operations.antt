@@ -1,6 +1,6 @@
 -- The operations AES block and Watch AES block. Shares lie one after the other, share 0 first, 16 bytes each of a key and of a block.
-use Rattle.std.specs.Prelude.{◌≡◌, Bool, ◌&&◌, List, [], ◌∷◌, ℕ, ◌*◌, ◌≤◌, ◌<◌, eqb, length}
-use Rattle.refusal.specs.Outcome.{Outcome, done, refused, test}
+use Rattle.std.specs.Prelude.{◌≡◌, Bool, ◌&&◌, List, [], ℕ, ◌*◌, ◌≤◌, ◌<◌, eqb, length}
+use Rattle.refusal.specs.Outcome.{Outcome, done, test}
 use Rattle.refusal.specs.Range.{one_to}
 use Rattle.steps.specs.Program.{Run}
 use Rattle.steps.specs.Call.{Call, call_outcome, call_result}
@@ -10,12 +10,6 @@ use Rattle.steps.specs.Tape.{bytes_for}
 use Rattle.rijndael.specs.Strings.{byte_at, loaded}
 use Rattle.aes.specs.Figures.{block_draws, block_steps}
 use Rattle.aes.specs.Experiment.{block_program}
-use Rattle.aes.specs.declared.arguments.Tested.{Tested}
-use Rattle.aes.specs.declared.arguments.Tested.TheVariants.{Passed, Refused}
-use Rattle.aes.specs.declared.enciphering.BlockAnswer.{BlockAnswer}
-use Rattle.aes.specs.declared.enciphering.BlockAnswer.TheVariants.{Done as Block-as-Done, Refused as Block-as-Refused}
-use Rattle.aes.specs.declared.watching.WatchAnswer.{WatchAnswer}
-use Rattle.aes.specs.declared.watching.WatchAnswer.TheVariants.{Done as Watch-as-Done, Refused as Watch-as-Refused}
 
 -- ---- the call
 
@@ -54,11 +48,6 @@ block_outcome s key block random out = call_outcome (block_call s key block rand
 unfoldable pub block_output : ℕ → List ℕ → List ℕ → List ℕ → List ℕ
 block_output s key block random = tabulate (16 * s) (byte_at (call_result (block_call s key block random)))
 
--- what each answer stands for
-abbrev pub block_report : BlockAnswer → Outcome
-block_report (Block-as-Done products random steps) = done (products ∷ random ∷ steps ∷ [])
-block_report (Block-as-Refused number place) = refused number place
-
 -- ---- Watch AES block (s, key shares, block shares, random, list, values)
 
 -- the outcome, by the length of values
@@ -69,17 +58,7 @@ watch_outcome s key block random list values = call.watch_outcome (block_call s 
 unfoldable pub watch_output : ℕ → List ℕ → List ℕ → List ℕ → List ℕ → List ℕ
 watch_output s key block random list = call.watch_output (block_call s key block random) list
 
--- what each answer stands for
-abbrev pub watch_report : WatchAnswer → Outcome
-watch_report (Watch-as-Done products random steps) = done (products ∷ random ∷ steps ∷ [])
-watch_report (Watch-as-Refused number place) = refused number place
-
 -- ---- where the tests are passed
-
--- what the tests come to, as an outcome that hands nothing on
-abbrev pub tested_report : Tested → Outcome
-tested_report Passed = done []
-tested_report (Refused number place) = refused number place
 
 -- a call whose arguments pass the tests
 pub record Callable (s : ℕ) (key block random : List ℕ) : Type 0 where

@@ -1,121 +1,70 @@
-// The masked S-box, on sharings of nine bytes.
-ghost use Rattle.std.specs.Prelude.{◌≡◌, ◌≤◌, ◌<◌};
-ghost use Rattle.steps.specs.Tape.{elements};
-ghost use Rattle.steps.specs.Machine.{Ready, Went, ReadySteps, WentSteps};
+// The masked S-box, on sharings of a byte.
+ghost use Rattle.std.specs.Prelude.{◌≡◌, ◌<◌};
+ghost use Rattle.steps.specs.Machine.{Ready, Went};
 ghost use Rattle.rijndael.specs.Rijndael.{linear_part};
 ghost use Rattle.aes.specs.Sbox as spec;
 ghost use Rattle.aes.specs.Rounds.{powers_in, affine_turn};
 
-use product::bytes::{product, square};
-use steps::Counts;
+use field::Gf256;
+use product::{Sharing, product, square};
+use steps::ShareCount;
+use steps::machine::Machine;
 
-// The powers 2, 4 and 8 of the sharing y.
-fn powers(
-    s: usize,
-    y: &[u8; 9],
-    watch: &[u32],
-    values: &mut [u8],
-    y2: &mut [u8; 9],
-    y4: &mut [u8; 9],
-    y8: &mut [u8; 9],
-    n: u32,
-) -> u32
-    requires s_bound { s ≤ 9 }
-    requires ready_steps { ReadySteps watch.now (spec.powers s y.now) n values.old }
-    ensures { WentSteps watch.now (spec.powers s y.now)
-        n values.old (powers_in y2.new y4.new y8.new) result values.new }
-{
-    let n = square(s, y, watch, &mut *values, &mut *y2, n);
-    let n = square(s, &*y2, watch, &mut *values, &mut *y4, n);
-    square(s, &*y4, watch, values, y8, n)
+// The powers 2, 4 and 8 of a sharing.
+#[derive(Clone, Copy)]
+struct Powers {
+    second: Sharing,
+    fourth: Sharing,
+    eighth: Sharing,
 }
 
-// x ^ 16 goes to c.
-fn sixteenth(
-    s: usize,
-    x: &[u8; 9],
-    watch: &[u32],
-    values: &mut [u8],
-    c: &mut [u8; 9],
-    n: u32,
-) -> u32
-    requires s_bound { s ≤ 9 }
-    requires ready_steps { ReadySteps watch.now (spec.sixteenth s x.now) n values.old }
-    ensures { WentSteps watch.now (spec.sixteenth s x.now)
-        n values.old c.new result values.new }
+// Each is the square of the one before.
+fn powers_of<M: Machine>(machine: &mut M, s: ShareCount, y: &Sharing) -> Powers
+    requires { Ready (spec.powers s.count y.now) (M.state machine.old) }
+    ensures { Went (spec.powers s.count y.now) (M.state machine.old) (powers_in result) (M.state machine.new) }
 {
-    let mut x2 = [0u8; 9];
-    let mut x4 = [0u8; 9];
-    let mut x8 = [0u8; 9];
-    let n = powers(s, x, watch, &mut *values, &mut x2, &mut x4, &mut x8, n);
-    square(s, &x8, watch, values, c, n)
+    let second = square::<Gf256, M>(machine, s, y);
+    let fourth = square::<Gf256, M>(machine, s, &second);
+    let eighth = square::<Gf256, M>(machine, s, &fourth);
+    Powers {
+        second,
+        fourth,
+        eighth,
+    }
 }
 
-// x ^ 254 = ((x ^ 16 · x ^ 34) · x ^ 68) · x ^ 136 goes to c.
-fn multiplied(
-    s: usize,
-    x16: &[u8; 9],
-    x34: &[u8; 9],
-    x68: &[u8; 9],
-    x136: &[u8; 9],
-    random: &[u8],
-    watch: &[u32],
-    values: &mut [u8],
-    c: &mut [u8; 9],
-    n: Counts,
-) -> Counts
-    requires s_bound { s ≤ 9 }
-    requires ready { Ready (elements 8 random.now) watch.now
-        (spec.multiplied s x16.now (powers_in x34.now x68.now x136.now)) n values.old }
-    ensures { Went (elements 8 random.now) watch.now
-        (spec.multiplied s x16.now (powers_in x34.now x68.now x136.now))
-        n values.old c.new result values.new }
+// x ^ 16.
+fn sixteenth<M: Machine>(machine: &mut M, s: ShareCount, x: &Sharing) -> Sharing
+    requires { Ready (spec.sixteenth s.count x.now) (M.state machine.old) }
+    ensures { Went (spec.sixteenth s.count x.now) (M.state machine.old) result (M.state machine.new) }
 {
-    let mut x50 = [0u8; 9];
-    let n = product(s, x16, x34, random, watch, &mut *values, &mut x50, n);
-    let mut x118 = [0u8; 9];
-    let n = product(s, &x50, x68, random, watch, &mut *values, &mut x118, n);
-    product(s, &x118, x136, random, watch, values, c, n)
+    let powers = powers_of(machine, s, x);
+    square::<Gf256, M>(machine, s, &powers.eighth)
 }
 
-// The inverse of the sharing x goes to c, x ^ 17 being x · x ^ 16.
-fn inverted(
-    s: usize,
-    x: &[u8; 9],
-    random: &[u8],
-    watch: &[u32],
-    values: &mut [u8],
-    c: &mut [u8; 9],
-    n: Counts,
-) -> Counts
-    requires s_bound { s ≤ 9 }
-    requires ready { Ready (elements 8 random.now) watch.now (spec.inverted s x.now) n values.old }
-    ensures { Went (elements 8 random.now) watch.now
-        (spec.inverted s x.now) n values.old c.new result values.new }
+// x ^ 254 = ((x ^ 16 · x ^ 34) · x ^ 68) · x ^ 136, the last three being the powers of x ^ 17.
+fn multiplied<M: Machine>(machine: &mut M, s: ShareCount, x16: &Sharing, powers: &Powers) -> Sharing
+    requires { Ready (spec.multiplied s.count x16.now (powers_in powers.now)) (M.state machine.old) }
+    ensures { Went (spec.multiplied s.count x16.now (powers_in powers.now)) (M.state machine.old) result (M.state machine.new) }
 {
-    let mut x16 = [0u8; 9];
-    let next = sixteenth(s, x, watch, &mut *values, &mut x16, n.steps);
-    let n = n.with_steps(next);
-    let mut x17 = [0u8; 9];
-    let n = product(s, x, &x16, random, watch, &mut *values, &mut x17, n);
-    let mut x34 = [0u8; 9];
-    let mut x68 = [0u8; 9];
-    let mut x136 = [0u8; 9];
-    let next = powers(
-        s,
-        &x17,
-        watch,
-        &mut *values,
-        &mut x34,
-        &mut x68,
-        &mut x136,
-        n.steps,
-    );
-    let n = n.with_steps(next);
-    multiplied(s, &x16, &x34, &x68, &x136, random, watch, values, c, n)
+    let x50 = product::<Gf256, M>(machine, s, x16, &powers.second);
+    let x118 = product::<Gf256, M>(machine, s, &x50, &powers.fourth);
+    product::<Gf256, M>(machine, s, &x118, &powers.eighth)
+}
+
+// The inverse of the sharing x, x ^ 17 being x · x ^ 16.
+fn inverted<M: Machine>(machine: &mut M, s: ShareCount, x: &Sharing) -> Sharing
+    requires { Ready (spec.inverted s.count x.now) (M.state machine.old) }
+    ensures { Went (spec.inverted s.count x.now) (M.state machine.old) result (M.state machine.new) }
+{
+    let x16 = sixteenth(machine, s, x);
+    let x17 = product::<Gf256, M>(machine, s, x, &x16);
+    let powers = powers_of(machine, s, &x17);
+    multiplied(machine, s, &x16, &powers)
 }
 
 // The linear part of the affine map: v and v rotated left by 1 to 4.
+#[tactic(auto, using(crate::proofs::Places::linear_by_rotations))]
 fn linear_part(v: u8) -> u8
     ensures { result ≡ linear_part v }
 {
@@ -126,59 +75,33 @@ fn linear_part(v: u8) -> u8
 }
 
 // The affine map of share i: the constant 0x63 goes to share 0 only.
-fn affine_share(
-    i: usize,
-    a: &[u8; 9],
-    watch: &[u32],
-    values: &mut [u8],
-    c: &mut [u8; 9],
-    n: u32,
-) -> u32
+fn affine_share<M: Machine>(machine: &mut M, i: usize, a: &Sharing, c: &mut Sharing)
     requires i_bound { i < 9 }
-    requires ready_steps { ReadySteps watch.now (affine_turn a.now i c.old) n values.old }
-    ensures { WentSteps watch.now (affine_turn a.now i c.old)
-        n values.old c.new result values.new }
+    requires ready { Ready (affine_turn a.now i c.old) (M.state machine.old) }
+    ensures { Went (affine_turn a.now i c.old) (M.state machine.old) c.new (M.state machine.new) }
 {
     let v = linear_part(a[i]) ^ product::constant(i, 0x63);
-    let next = steps::record(watch, values, n, v);
+    machine.record(v);
     c[i] = v;
-    next
 }
 
-// The affine map of each share, to c.
-fn affine(s: usize, a: &[u8; 9], watch: &[u32], values: &mut [u8], c: &mut [u8; 9], n: u32) -> u32
-    requires s_bound { s ≤ 9 }
-    requires ready_steps { ReadySteps watch.now (spec.affine s a.now) n values.old }
-    ensures { WentSteps watch.now (spec.affine s a.now)
-        n values.old c.new result values.new }
+// The affine map of each share.
+fn affine<M: Machine>(machine: &mut M, s: ShareCount, a: &Sharing) -> Sharing
+    requires { Ready (spec.affine s.count a.now) (M.state machine.old) }
+    ensures { Went (spec.affine s.count a.now) (M.state machine.old) result (M.state machine.new) }
 {
-    *c = [0u8; 9];
-    let mut next = n;
-    let mut i = 0;
-    while i < s {
-        next = affine_share(i, a, watch, &mut *values, &mut *c, next);
-        i += 1;
+    let mut c = [0u8; 9];
+    for i in 0..s.count {
+        affine_share(machine, i, a, &mut c);
     }
-    next
+    c
 }
 
-// The masked S-box of the sharing x, of s shares, goes to c.
-pub fn sbox(
-    s: usize,
-    x: &[u8; 9],
-    random: &[u8],
-    watch: &[u32],
-    values: &mut [u8],
-    c: &mut [u8; 9],
-    n: Counts,
-) -> Counts
-    requires s_bound { s ≤ 9 }
-    requires ready { Ready (elements 8 random.now) watch.now (spec.sbox s x.now) n values.old }
-    ensures { Went (elements 8 random.now) watch.now
-        (spec.sbox s x.now) n values.old c.new result values.new }
+// The masked S-box of the sharing x, of s shares.
+pub fn sbox<M: Machine>(machine: &mut M, s: ShareCount, x: &Sharing) -> Sharing
+    requires { Ready (spec.sbox s.count x.now) (M.state machine.old) }
+    ensures { Went (spec.sbox s.count x.now) (M.state machine.old) result (M.state machine.new) }
 {
-    let mut y = [0u8; 9];
-    let n = inverted(s, x, random, watch, &mut *values, &mut y, n);
-    let next = affine(s, &y, watch, values, c, n.steps);
-    n.with_steps(next)
+    let y = inverted(machine, s, x);
+    affine(machine, s, &y)
 }

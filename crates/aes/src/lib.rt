@@ -1,5 +1,5 @@
 // Masked AES-128. The operations AES block and Watch AES block are `enciphering::block` and `watching::watch_block`; both take their steps in
-// `encryption::encrypt`, whose parts are the modules `key_expansion`, `rounds`, `linear_parts`, `substitution`, `inversion` and `recording`.
+// `encryption::encrypt`, whose parts are the modules `key_expansion`, `rounds`, `layers`, `substitution`, `inversion` and `recording`.
 #![tactic(auto)]
 
 mod arguments;
@@ -9,12 +9,11 @@ pub mod figures;
 mod inversion;
 mod key_expansion;
 mod layers;
-mod linear_parts;
 mod parts;
 mod recording;
 mod rounds;
 mod substitution;
 pub mod watching;
 
-pub use enciphering::{BlockAnswer, block};
-pub use watching::{WatchAnswer, watch_block};
+pub use enciphering::block;
+pub use watching::watch_block;

@@ -1,49 +1,79 @@
-// Parts of strings of bytes in shares: taking a byte, and replacing bytes.
-ghost use Rattle.std.specs.Prelude.{◌≡◌, [], ◌+◌, ◌*◌, ◌≤◌, ◌<◌, length, get_or};
-ghost use Rattle.rijndael.specs.Strings.{make_shares, take_at, put_places, put_shares};
+// Strings of bytes in shares: made place by place, and parts of them taken and replaced.
+ghost use Rattle.std.specs.Prelude.{◌≡◌, [], ℕ, ◌+◌, ◌*◌, ◌/◌, ◌≤◌, ◌<◌, length, replicate};
+ghost use Rattle.steps.specs.Fill.{tabulate, fill};
+ghost use Rattle.rijndael.specs.Strings.{byte_at, place_of, make_shares, take_at, put_shares, loaded};
+ghost use Rattle.aes.specs.Rounds.{Gives};
 
-// Byte j of each of s shares of a string of m bytes.
-pub fn take_byte(m: usize, j: usize, s: usize, a: &[u8]) -> [u8; 9]
-    requires { (j < m) × (m ≤ 16) × (s ≤ 9) × (s * m ≤ length a.now) }
-    ensures { result ≡ make_shares s m 0 1 (take_at j) a.now [] }
+use product::Sharing;
+use steps::ShareCount;
+
+// Strings of 4, of 16 and of 176 bytes in nine places, one for each share: share 0 first, 0 past the shares in use.
+pub type WordShares = [u8; 36];
+
+pub type BlockShares = [u8; 144];
+
+pub type ScheduleShares = [u8; 1584];
+
+// A string of N / 9 bytes in s shares, whose place p `byte` gives.
+pub fn make_shares<const N: usize, F: Fn(usize) -> u8>(s: ShareCount, byte: F) -> [u8; N]
+    requires { (p : ℕ) → p < s.count * (N / 9) → F.pre byte p }
+    ensures { (f : ℕ → ℕ) → Gives (F.post byte) (s.count * (N / 9)) f → result ≡ fill (s.count * (N / 9)) f (replicate N 0) }
 {
-    let mut c = [0u8; 9];
-    let mut i = 0;
-    while i < s {
-        c[i] = a[i * m + j];
-        i += 1;
+    let mut string = [0u8; N];
+    for p in 0..s.count * (N / 9) {
+        string[p] = byte(p);
     }
+    string
+}
+
+// Byte j of each share of a string of N / 9 bytes.
+#[tactic(auto, using(crate::proofs::Places::take_place))]
+pub fn take_byte<const N: usize>(s: ShareCount, j: usize, a: &[u8; N]) -> Sharing
+    requires { j < N / 9 }
+    ensures { result ≡ make_shares s.count (N / 9) 0 1 (take_at j) a.now [] }
+{
+    make_shares(
+        s,
+        |i|
+            requires { (i < 9) × (j < N / 9) }
+            ensures { result ≡ place_of (N / 9) 0 1 (take_at j) a.entry.now [] i }
+        { a[i * (N / 9) + j] },
+    )
+}
+
+// The bytes of `part` replace those of a from number `at` on, in each of s shares.
+pub fn put_shares<const N: usize, const P: usize>(
+    s: ShareCount,
+    at: usize,
+    part: &[u8; P],
+    a: &mut [u8; N],
+)
+    requires { at + P / 9 ≤ N / 9 }
+    ensures { a.new ≡ put_shares s.count (N / 9) at (P / 9) a.old part.now }
+{
+    let (string, part) = (&mut a[..], &part[..]);
+    for i in 0..s.count {
+        let place = i * (N / 9) + at;
+        string[place..place + P / 9].copy_from_slice(&part[i * (P / 9)..(i + 1) * (P / 9)]);
+    }
+}
+
+// The shares of a string of 16 bytes in nine places, 0 past them.
+#[tactic(auto, using(crate::proofs::Fills::loaded_copy))]
+pub fn load(a: &[u8]) -> BlockShares
+    requires { length a.now ≤ 144 }
+    ensures { result ≡ loaded 16 a.now }
+{
+    let mut c = [0u8; 144];
+    c[..a.len()].copy_from_slice(a);
     c
 }
 
-// Copies n bytes of b, from number `from` on, to the places of a from `at` on.
-fn put_places(at: usize, n: usize, from: usize, b: &[u8], a: &mut [u8])
-    requires { (at + n ≤ length a.old) × (from + n ≤ length b.now) }
-    ensures { a.new ≡ put_places at n (λ k. get_or b.now (from + k) 0) a.old }
+// The first places of a string, as many as `out` has.
+#[tactic(auto, using(crate::proofs::Fills::first_bytes))]
+pub fn store(a: &BlockShares, out: &mut [u8])
+    requires { length out.old ≤ 144 }
+    ensures { out.new ≡ tabulate (length out.old) (byte_at a.now) }
 {
-    let mut k = 0;
-    while k < n {
-        a[at + k] = b[from + k];
-        k += 1;
-    }
-}
-
-// The bytes of b, a string of n bytes, replace those of a, of m bytes, from number `at` on, in each of s shares.
-pub fn put_shares(m: usize, at: usize, n: usize, s: usize, b: &[u8], a: &mut [u8])
-    requires { (at + n ≤ m) × (m ≤ 176) × (s ≤ 9) × (s * n ≤ length b.now) × (s * m ≤ length a.old) }
-    ensures { a.new ≡ put_shares s m at n a.old b.now }
-{
-    let mut i = 0;
-    while i < s {
-        put_places(i * m + at, n, i * n, b, &mut *a);
-        i += 1;
-    }
-}
-
-// A sharing of a byte takes the place of byte j of a string of m bytes.
-pub fn put_byte(m: usize, j: usize, s: usize, v: &[u8; 9], a: &mut [u8])
-    requires { (j < m) × (m ≤ 16) × (s ≤ 9) × (s * m ≤ length a.old) }
-    ensures { a.new ≡ put_shares s m j 1 a.old v.now }
-{
-    put_shares(m, j, 1, s, v, a);
+    out.copy_from_slice(&a[..out.len()]);
 }

@@ -1,15 +1,16 @@
 // The recording of strings of bytes.
-ghost use Rattle.std.specs.Prelude.{◌*◌, ◌≤◌, length};
-ghost use Rattle.steps.specs.Machine.{ReadySteps, WentSteps};
-ghost use Rattle.rijndael.specs.Strings.{note_bytes};
+ghost use Rattle.std.specs.Prelude.{◌/◌};
+ghost use Rattle.steps.specs.Machine.{Ready, Went};
+ghost use Rattle.rijndael.specs.Strings.{record_string};
 
-// Records the bytes of a string of m bytes in s shares, share by share, byte 0 first.
-pub fn record_string(m: usize, s: usize, a: &[u8], watch: &[u32], values: &mut [u8], n: u32) -> u32
-    requires m_bound { (m ≤ 16) × (s ≤ 9) × (s * m ≤ length a.now) }
-    requires ready_steps { ReadySteps watch.now (note_bytes m s a.now) n values.old }
-    ensures { WentSteps watch.now (note_bytes m s a.now)
-        n values.old tt result values.new }
+use steps::ShareCount;
+use steps::machine::Machine;
+
+// Records the bytes of a string of N / 9 bytes in s shares, share by share, byte 0 first, and hands the string on.
+pub fn recorded<const N: usize, M: Machine>(machine: &mut M, s: ShareCount, a: [u8; N]) -> [u8; N]
+    requires { Ready (record_string (N / 9) s.count a) (M.state machine.old) }
+    ensures { Went (record_string (N / 9) s.count a.entry) (M.state machine.old) result (M.state machine.new) }
 {
-    let count = s * m;
-    steps::record_all(watch, values, n, &a[..count])
+    machine.record_all(&a[..s.count * (N / 9)]);
+    a
 }

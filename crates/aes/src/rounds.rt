@@ -1,124 +1,70 @@
 // The rounds of a masked block, under a key schedule.
-ghost use Rattle.std.specs.Prelude.{◌≤◌, ◌<◌};
+ghost use Rattle.std.specs.Prelude.{◌<◌};
 ghost use Rattle.steps.specs.Program.{for};
-ghost use Rattle.steps.specs.Tape.{elements};
 ghost use Rattle.steps.specs.Machine.{Ready, Went};
 ghost use Rattle.rijndael.specs.Masked.{masked_round, masked_last_round, masked_cipher};
 ghost use Rattle.aes.specs.Sbox as spec;
 
-use crate::linear_parts::{keyed, mixed, shifted};
+use crate::layers::{add_round_key, mix_columns, shift_rows};
+use crate::parts::{BlockShares, ScheduleShares};
 use crate::substitution::sub_bytes;
-use steps::Counts;
+use steps::ShareCount;
+use steps::machine::Machine;
 
-// The state in shares, with what the run has taken.
-#[derive(Clone, Copy)]
-pub struct State {
-    pub bytes: [u8; 144],
-    pub counts: Counts,
-}
-
-// Round r, 1 to 9.
-fn round(
-    s: usize,
-    w: &[u8; 1584],
+// Round r, 1 to 9, of the state.
+fn round<M: Machine>(
+    machine: &mut M,
+    s: ShareCount,
+    w: &ScheduleShares,
     r: usize,
-    random: &[u8],
-    watch: &[u32],
-    values: &mut [u8],
-    t: State,
-) -> State
-    requires s_bound { (s ≤ 9) × (r < 11) }
-    requires ready { Ready (elements 8 random.now) watch.now (masked_round (spec.sbox s) s w.now r t.bytes) t.counts values.old }
-    ensures { Went (elements 8 random.now) watch.now
-        (masked_round (spec.sbox s) s w.now r t.bytes) t.counts values.old result.bytes result.counts values.new }
+    state: &mut BlockShares,
+)
+    requires r_bound { r < 11 }
+    requires ready { Ready (masked_round (spec.sbox s.count) s.count w.now r state.old) (M.state machine.old) }
+    ensures { Went (masked_round (spec.sbox s.count) s.count w.now r state.old) (M.state machine.old) state.new (M.state machine.new) }
 {
-    let mut a = t.bytes;
-    let n = sub_bytes(s, random, watch, &mut *values, &mut a, t.counts);
-    let x = shifted(s, &a, watch, &mut *values, n.steps);
-    let b = x.bytes;
-    let y = mixed(s, &b, watch, &mut *values, x.next);
-    let c = y.bytes;
-    let z = keyed(s, r, w, &c, watch, values, y.next);
-    let d = z.bytes;
-    let n = n.with_steps(z.next);
-    State {
-        bytes: d,
-        counts: n,
-    }
+    sub_bytes(machine, s, state);
+    let shifted = shift_rows(machine, s, state);
+    let mixed = mix_columns(machine, s, &shifted);
+    *state = add_round_key(machine, s, r, w, &mixed);
 }
 
 // Rounds 1 to 9.
-fn rounds(
-    s: usize,
-    w: &[u8; 1584],
-    random: &[u8],
-    watch: &[u32],
-    values: &mut [u8],
-    t: State,
-) -> State
-    requires s_bound { s ≤ 9 }
-    requires ready { Ready (elements 8 random.now) watch.now (for 1 10 (masked_round (spec.sbox s) s w.now) t.bytes) t.counts values.old }
-    ensures { Went (elements 8 random.now) watch.now
-        (for 1 10 (masked_round (spec.sbox s) s w.now) t.bytes) t.counts values.old result.bytes result.counts values.new }
+fn rounds<M: Machine>(machine: &mut M, s: ShareCount, w: &ScheduleShares, state: &mut BlockShares)
+    requires { Ready (for 1 10 (masked_round (spec.sbox s.count) s.count w.now) state.old) (M.state machine.old) }
+    ensures { Went (for 1 10 (masked_round (spec.sbox s.count) s.count w.now) state.old) (M.state machine.old) state.new (M.state machine.new) }
 {
-    let mut t = t;
-    let mut r = 1;
-    while r < 10 {
-        t = round(s, w, r, random, watch, &mut *values, t);
-        r += 1;
+    for r in 1..10 {
+        round(machine, s, w, r, state);
     }
-    t
 }
 
 // Round 10, without MixColumns.
-fn last_round(
-    s: usize,
-    w: &[u8; 1584],
-    random: &[u8],
-    watch: &[u32],
-    values: &mut [u8],
-    t: State,
-) -> State
-    requires s_bound { s ≤ 9 }
-    requires ready { Ready (elements 8 random.now) watch.now (masked_last_round (spec.sbox s) s w.now t.bytes) t.counts values.old }
-    ensures { Went (elements 8 random.now) watch.now
-        (masked_last_round (spec.sbox s) s w.now t.bytes) t.counts values.old result.bytes result.counts values.new }
+fn last_round<M: Machine>(
+    machine: &mut M,
+    s: ShareCount,
+    w: &ScheduleShares,
+    state: &mut BlockShares,
+) -> BlockShares
+    requires { Ready (masked_last_round (spec.sbox s.count) s.count w.now state.old) (M.state machine.old) }
+    ensures { Went (masked_last_round (spec.sbox s.count) s.count w.now state.old) (M.state machine.old) result (M.state machine.new) }
 {
-    let mut a = t.bytes;
-    let n = sub_bytes(s, random, watch, &mut *values, &mut a, t.counts);
-    let x = shifted(s, &a, watch, &mut *values, n.steps);
-    let b = x.bytes;
-    let z = keyed(s, 10, w, &b, watch, values, x.next);
-    let d = z.bytes;
-    let n = n.with_steps(z.next);
-    State {
-        bytes: d,
-        counts: n,
-    }
+    sub_bytes(machine, s, state);
+    let shifted = shift_rows(machine, s, state);
+    add_round_key(machine, s, 10, w, &shifted)
 }
 
 // Cipher: AddRoundKey, rounds 1 to 9, and round 10.
-pub fn cipher(
-    s: usize,
-    w: &[u8; 1584],
-    a: &[u8; 144],
-    random: &[u8],
-    watch: &[u32],
-    values: &mut [u8],
-    n: Counts,
-) -> State
-    requires s_bound { s ≤ 9 }
-    requires ready { Ready (elements 8 random.now) watch.now (masked_cipher (spec.sbox s) s w.now a.now) n values.old }
-    ensures { Went (elements 8 random.now) watch.now
-        (masked_cipher (spec.sbox s) s w.now a.now) n values.old result.bytes result.counts values.new }
+pub fn cipher<M: Machine>(
+    machine: &mut M,
+    s: ShareCount,
+    w: &ScheduleShares,
+    block: &BlockShares,
+) -> BlockShares
+    requires { Ready (masked_cipher (spec.sbox s.count) s.count w.now block.now) (M.state machine.old) }
+    ensures { Went (masked_cipher (spec.sbox s.count) s.count w.now block.now) (M.state machine.old) result (M.state machine.new) }
 {
-    let z = keyed(s, 0, w, a, watch, &mut *values, n.steps);
-    let b = z.bytes;
-    let n = n.with_steps(z.next);
-    let t = State {
-        bytes: b,
-        counts: n,
-    };
-    let t = rounds(s, w, random, watch, &mut *values, t);
-    last_round(s, w, random, watch, values, t)
+    let mut state = add_round_key(machine, s, 0, w, block);
+    rounds(machine, s, w, &mut state);
+    last_round(machine, s, w, &mut state)
 }

@@ -1,91 +1,31 @@
 // SubBytes and SubWord: the S-box on the bytes of strings.
-ghost use Rattle.std.specs.Prelude.{◌*◌, ◌≤◌, ◌<◌, length};
-ghost use Rattle.steps.specs.Tape.{elements};
+ghost use Rattle.std.specs.Prelude.{◌/◌, ◌<◌};
 ghost use Rattle.steps.specs.Machine.{Ready, Went};
 ghost use Rattle.rijndael.specs.Masked.{masked_sub_byte, masked_sub_bytes};
 ghost use Rattle.aes.specs.Sbox as spec;
 
 use crate::inversion::sbox;
-use crate::parts::{put_byte, take_byte};
-use steps::Counts;
+use crate::parts::{put_shares, take_byte};
+use steps::ShareCount;
+use steps::machine::Machine;
 
-// The S-box on byte j of a string of m bytes.
-fn sub_byte(
-    m: usize,
-    j: usize,
-    s: usize,
-    random: &[u8],
-    watch: &[u32],
-    values: &mut [u8],
-    a: &mut [u8],
-    n: Counts,
-) -> Counts
-    requires j_lt_m { (j < m) × (m ≤ 16) × (s ≤ 9) × (s * m ≤ length a.old) }
-    requires ready { Ready (elements 8 random.now) watch.now (masked_sub_byte (spec.sbox s) m s j a.old) n values.old }
-    ensures { Went (elements 8 random.now) watch.now
-        (masked_sub_byte (spec.sbox s) m s j a.old) n values.old a.new result values.new }
+// The S-box on byte j of a string of N / 9 bytes.
+fn sub_byte<const N: usize, M: Machine>(machine: &mut M, s: ShareCount, j: usize, a: &mut [u8; N])
+    requires j_bound { j < N / 9 }
+    requires ready { Ready (masked_sub_byte (spec.sbox s.count) (N / 9) s.count j a.old) (M.state machine.old) }
+    ensures { Went (masked_sub_byte (spec.sbox s.count) (N / 9) s.count j a.old) (M.state machine.old) a.new (M.state machine.new) }
 {
-    let x = take_byte(m, j, s, &*a);
-    let mut y = [0u8; 9];
-    let n = sbox(s, &x, random, watch, values, &mut y, n);
-    put_byte(m, j, s, &y, a);
-    n
+    let x = take_byte(s, j, a);
+    let y = sbox(machine, s, &x);
+    put_shares(s, j, &y, a);
 }
 
-// The S-box on each byte of a string of m bytes, byte 0 first.
-fn sub_string(
-    m: usize,
-    s: usize,
-    random: &[u8],
-    watch: &[u32],
-    values: &mut [u8],
-    a: &mut [u8],
-    n: Counts,
-) -> Counts
-    requires m_bound { (m ≤ 16) × (s ≤ 9) × (s * m ≤ length a.old) }
-    requires ready { Ready (elements 8 random.now) watch.now (masked_sub_bytes (spec.sbox s) m s a.old) n values.old }
-    ensures { Went (elements 8 random.now) watch.now
-        (masked_sub_bytes (spec.sbox s) m s a.old) n values.old a.new result values.new }
+// The S-box on each byte of a string of N / 9 bytes, byte 0 first: SubBytes of a state, and SubWord of a word.
+pub fn sub_bytes<const N: usize, M: Machine>(machine: &mut M, s: ShareCount, a: &mut [u8; N])
+    requires { Ready (masked_sub_bytes (spec.sbox s.count) (N / 9) s.count a.old) (M.state machine.old) }
+    ensures { Went (masked_sub_bytes (spec.sbox s.count) (N / 9) s.count a.old) (M.state machine.old) a.new (M.state machine.new) }
 {
-    let mut n = n;
-    let mut j = 0;
-    while j < m {
-        n = sub_byte(m, j, s, random, watch, &mut *values, &mut *a, n);
-        j += 1;
+    for j in 0..N / 9 {
+        sub_byte(machine, s, j, a);
     }
-    n
-}
-
-// SubBytes.
-pub fn sub_bytes(
-    s: usize,
-    random: &[u8],
-    watch: &[u32],
-    values: &mut [u8],
-    a: &mut [u8; 144],
-    n: Counts,
-) -> Counts
-    requires s_bound { s ≤ 9 }
-    requires ready { Ready (elements 8 random.now) watch.now (masked_sub_bytes (spec.sbox s) 16 s a.old) n values.old }
-    ensures { Went (elements 8 random.now) watch.now
-        (masked_sub_bytes (spec.sbox s) 16 s a.old) n values.old a.new result values.new }
-{
-    sub_string(16, s, random, watch, values, a, n)
-}
-
-// SubWord.
-pub fn sub_word(
-    s: usize,
-    random: &[u8],
-    watch: &[u32],
-    values: &mut [u8],
-    a: &mut [u8; 36],
-    n: Counts,
-) -> Counts
-    requires s_bound { s ≤ 9 }
-    requires ready { Ready (elements 8 random.now) watch.now (masked_sub_bytes (spec.sbox s) 4 s a.old) n values.old }
-    ensures { Went (elements 8 random.now) watch.now
-        (masked_sub_bytes (spec.sbox s) 4 s a.old) n values.old a.new result values.new }
-{
-    sub_string(4, s, random, watch, values, a, n)
 }

@@ -26,7 +26,8 @@ use Rattle.present.specs.Present.{table, Size}
 use Rattle.present.specs.Decrypt.{inverse_table}
 use Rattle.unshared.specs.Operations.{unshared_lengths, unshared_outcome}
 use Rattle.aes.specs.Operations as aes
-use Rattle.capi.specs.Words.{words, Told}
+use Rattle.refusal.specs.Words.{words}
+use Rattle.capi.specs.Words.{Told}
 
 -- a test whose number is not 0, before tests of which the same is said
 told_test : (b : Bool) (number place : ℕ) (next : Outcome) → 0 < number → Told next → Told (test b number place next)

@@ -4,7 +4,8 @@ use mathlib.Core.List.{List}
 use Prim.Native.Nat.{ℕ}
 use Rattle.refusal.specs.Outcome.{Outcome, Answered}
 use Rattle.decomposition.specs.Fit.{FitEnd}
-use Rattle.capi.specs.Words.{words, Reported, ReportedFit}
+use Rattle.refusal.specs.Words.{words}
+use Rattle.capi.specs.Words.{Reported, ReportedFit}
 
 pub reported : {outcome report : Outcome} {new old answer left : List ℕ}
     → Answered outcome new old report left

@@ -1,12 +1,8 @@
--- Answers as the C interface gives them: four 64-bit words.
-use Rattle.std.specs.Prelude.{◌≡◌, List, [], ◌∷◌, ℕ, ◌<◌, get_or}
+-- What an exported operation answers: the words of its outcome, and what its slices hold.
+use Rattle.std.specs.Prelude.{◌≡◌, List, ℕ, ◌<◌}
 use Rattle.refusal.specs.Outcome.{Outcome, done, refused, written}
+use Rattle.refusal.specs.Words.{words}
 use Rattle.decomposition.specs.Fit.{FitEnd}
-
--- the number, 0 for done; then the place, or up to three numbers that are handed back; 0 in words that are not used
-unfoldable pub words : Outcome → List ℕ
-words (done numbers) = 0 ∷ get_or numbers 0 0 ∷ get_or numbers 1 0 ∷ get_or numbers 2 0 ∷ []
-words (refused number place) = number ∷ place ∷ 0 ∷ 0 ∷ []
 
 -- The contract of an exported operation with one slice lent for output. It is to answer `outcome` and to write `new`: the words are those of the
 -- outcome, and the slice, which held `old`, holds `left`.

@@ -1,7 +1,7 @@
 // The C interface: the operations with slices as pointer and length, and the answer as four 64-bit words.
 #![tactic(auto)]
 
-ghost use Rattle.std.specs.Prelude.{◌≡◌, [], ◌∷◌, length};
+ghost use Rattle.std.specs.Prelude.{◌≡◌, length};
 ghost use Rattle.steps.specs.Operations.{split_outcome, split_shares, join_outcome, join_shares};
 ghost use Rattle.decomposition.specs.Record.{read_outcome};
 ghost use Rattle.decomposition.specs.Check.{check_outcome};
@@ -12,32 +12,17 @@ ghost use Rattle.cipher.specs.OpenOperations.{open_outcome, open_output, watch_o
 ghost use Rattle.present.specs.Present.{size80};
 ghost use Rattle.unshared.specs.Operations.{unshared_outcome, encrypt_output, decrypt_output};
 ghost use Rattle.aes.specs.Operations.{block_outcome as aes_block_outcome, block_output as aes_block_output, watch_outcome as aes_watch_outcome, watch_output as aes_watch_output};
-ghost use Rattle.capi.specs.Words.{words, Reported, ReportedFit};
+ghost use Rattle.refusal.specs.Words.{words};
+ghost use Rattle.capi.specs.Words.{Reported, ReportedFit};
 
-use aes::{BlockAnswer as AesBlockAnswer, WatchAnswer as AesWatchAnswer};
-use cipher::{BlockAnswer, OpenAnswer, WatchAnswer as BlockWatchAnswer, WatchOpenAnswer};
-use decomposition::{CheckAnswer, FitAnswer, HouseFitAnswer, ReadAnswer};
-use sbox::{SboxAnswer, WatchAnswer};
-use steps::{JoinAnswer, SplitAnswer};
-use unshared::{DecryptAnswer, EncryptAnswer};
-
-// Fills the answer.
-fn put(answer: &mut [u64; 4], number: u64, first: u64, second: u64, third: u64)
-    ensures { answer.new ≡ number ∷ first ∷ second ∷ third ∷ [] }
-{
-    *answer = [number, first, second, third];
-}
+use refusal::answer_words;
 
 // Read hands back the width.
 #[unsafe(no_mangle)]
 pub extern "C" fn ll_read(record: &[u8], answer: &mut [u64; 4])
     ensures { answer.new ≡ words (read_outcome «record».now) }
 {
-    let a = decomposition::read(record);
-    match a {
-        ReadAnswer::Done { width } => put(answer, 0, width as u64, 0, 0),
-        ReadAnswer::Refused { number, place } => { put(answer, number as u64, place as u64, 0, 0) }
-    }
+    *answer = answer_words(decomposition::read(record));
 }
 
 // Check hands nothing back.
@@ -45,11 +30,7 @@ pub extern "C" fn ll_read(record: &[u8], answer: &mut [u64; 4])
 pub extern "C" fn ll_check(record: &[u8], table: &[u8], answer: &mut [u64; 4])
     ensures { answer.new ≡ words (check_outcome «record».now table.now) }
 {
-    let a = decomposition::check(record, table);
-    match a {
-        CheckAnswer::Done => put(answer, 0, 0, 0, 0),
-        CheckAnswer::Refused { number, place } => { put(answer, number as u64, place as u64, 0, 0) }
-    }
+    *answer = answer_words(decomposition::check(record, table));
 }
 
 // Fit hands nothing back.
@@ -67,11 +48,7 @@ pub extern "C" fn ll_fit(
         (record { table = table.now; basis = basis.now; work = work.old; out = «record».old }))
         answer.new work.new «record».new }
 {
-    let a = decomposition::fit(width, bits, table, basis, work, record);
-    match a {
-        FitAnswer::Done => put(answer, 0, 0, 0, 0),
-        FitAnswer::Refused { number, place } => { put(answer, number as u64, place as u64, 0, 0) }
-    }
+    *answer = answer_words(decomposition::fit(width, bits, table, basis, work, record));
 }
 
 // House fit hands nothing back.
@@ -85,13 +62,7 @@ pub extern "C" fn ll_house_fit(
     ensures { ReportedFit (house_end table.now work.old «record».old)
         answer.new work.new «record».new }
 {
-    let a = decomposition::house_fit(table, work, record);
-    match a {
-        HouseFitAnswer::Done => put(answer, 0, 0, 0, 0),
-        HouseFitAnswer::Refused { number, place } => {
-            put(answer, number as u64, place as u64, 0, 0)
-        }
-    }
+    *answer = answer_words(decomposition::house_fit(table, work, record));
 }
 
 // S-box hands back how many products, random bytes and steps it took.
@@ -109,15 +80,7 @@ pub extern "C" fn ll_sbox(
         (sbox_output «record».now s shares.now random.now)
         out.old answer.new out.new }
 {
-    let a = sbox::sbox(record, s, shares, random, out);
-    match a {
-        SboxAnswer::Done {
-            products,
-            random,
-            steps,
-        } => { put(answer, 0, products as u64, random as u64, steps as u64) }
-        SboxAnswer::Refused { number, place } => { put(answer, number as u64, place as u64, 0, 0) }
-    }
+    *answer = answer_words(sbox::sbox(record, s, shares, random, out));
 }
 
 // Watch S-box hands back the same.
@@ -136,15 +99,7 @@ pub extern "C" fn ll_sbox_watch(
         (watch_output «record».now s shares.now random.now list.now)
         values.old answer.new values.new }
 {
-    let a = sbox::watch_sbox(record, s, shares, random, list, values);
-    match a {
-        WatchAnswer::Done {
-            products,
-            random,
-            steps,
-        } => { put(answer, 0, products as u64, random as u64, steps as u64) }
-        WatchAnswer::Refused { number, place } => { put(answer, number as u64, place as u64, 0, 0) }
-    }
+    *answer = answer_words(sbox::watch_sbox(record, s, shares, random, list, values));
 }
 
 // Block hands back how many products, random bytes and steps it took.
@@ -163,15 +118,7 @@ pub extern "C" fn ll_block(
         (block_output «record».now s key_shares.now block_shares.now random.now)
         out.old answer.new out.new }
 {
-    let a = cipher::block(record, s, key_shares, block_shares, random, out);
-    match a {
-        BlockAnswer::Done {
-            products,
-            random,
-            steps,
-        } => { put(answer, 0, products as u64, random as u64, steps as u64) }
-        BlockAnswer::Refused { number, place } => { put(answer, number as u64, place as u64, 0, 0) }
-    }
+    *answer = answer_words(cipher::block(record, s, key_shares, block_shares, random, out));
 }
 
 // Watch block hands back the same.
@@ -191,17 +138,15 @@ pub extern "C" fn ll_block_watch(
         (block_watch_output «record».now s key_shares.now block_shares.now random.now list.now)
         values.old answer.new values.new }
 {
-    let a = cipher::watch_block(record, s, key_shares, block_shares, random, list, values);
-    match a {
-        BlockWatchAnswer::Done {
-            products,
-            random,
-            steps,
-        } => { put(answer, 0, products as u64, random as u64, steps as u64) }
-        BlockWatchAnswer::Refused { number, place } => {
-            put(answer, number as u64, place as u64, 0, 0)
-        }
-    }
+    *answer = answer_words(cipher::watch_block(
+        record,
+        s,
+        key_shares,
+        block_shares,
+        random,
+        list,
+        values,
+    ));
 }
 
 // Open hands back the same.
@@ -221,7 +166,7 @@ pub extern "C" fn ll_open(
         (open_output «record».now inverse_record.now s key_shares.now block_shares.now random.now)
         out.old answer.new out.new }
 {
-    let a = cipher::open(
+    *answer = answer_words(cipher::open(
         record,
         inverse_record,
         s,
@@ -229,15 +174,7 @@ pub extern "C" fn ll_open(
         block_shares,
         random,
         out,
-    );
-    match a {
-        OpenAnswer::Done {
-            products,
-            random,
-            steps,
-        } => { put(answer, 0, products as u64, random as u64, steps as u64) }
-        OpenAnswer::Refused { number, place } => { put(answer, number as u64, place as u64, 0, 0) }
-    }
+    ));
 }
 
 // Watch open hands back the same.
@@ -258,7 +195,7 @@ pub extern "C" fn ll_open_watch(
         (watch_open_output «record».now inverse_record.now s key_shares.now block_shares.now random.now list.now)
         values.old answer.new values.new }
 {
-    let a = cipher::watch_open(
+    *answer = answer_words(cipher::watch_open(
         record,
         inverse_record,
         s,
@@ -267,17 +204,7 @@ pub extern "C" fn ll_open_watch(
         random,
         list,
         values,
-    );
-    match a {
-        WatchOpenAnswer::Done {
-            products,
-            random,
-            steps,
-        } => { put(answer, 0, products as u64, random as u64, steps as u64) }
-        WatchOpenAnswer::Refused { number, place } => {
-            put(answer, number as u64, place as u64, 0, 0)
-        }
-    }
+    ));
 }
 
 // Encrypt hands nothing back.
@@ -288,13 +215,7 @@ pub extern "C" fn ll_encrypt(key: &[u8], block: &[u8], out: &mut [u8], answer: &
         (encrypt_output size80 key.now block.now)
         out.old answer.new out.new }
 {
-    let a = unshared::encrypt(key, block, out);
-    match a {
-        EncryptAnswer::Done => put(answer, 0, 0, 0, 0),
-        EncryptAnswer::Refused { number, place } => {
-            put(answer, number as u64, place as u64, 0, 0)
-        }
-    }
+    *answer = answer_words(unshared::encrypt(key, block, out));
 }
 
 // Decrypt hands nothing back.
@@ -305,13 +226,7 @@ pub extern "C" fn ll_decrypt(key: &[u8], block: &[u8], out: &mut [u8], answer: &
         (decrypt_output size80 key.now block.now)
         out.old answer.new out.new }
 {
-    let a = unshared::decrypt(key, block, out);
-    match a {
-        DecryptAnswer::Done => put(answer, 0, 0, 0, 0),
-        DecryptAnswer::Refused { number, place } => {
-            put(answer, number as u64, place as u64, 0, 0)
-        }
-    }
+    *answer = answer_words(unshared::decrypt(key, block, out));
 }
 
 // AES block hands back how many products, random bytes and steps it took.
@@ -329,17 +244,7 @@ pub extern "C" fn ll_aes_block(
         (aes_block_output s key_shares.now block_shares.now random.now)
         out.old answer.new out.new }
 {
-    let a = aes::block(s, key_shares, block_shares, random, out);
-    match a {
-        AesBlockAnswer::Done {
-            products,
-            random,
-            steps,
-        } => { put(answer, 0, products as u64, random as u64, steps as u64) }
-        AesBlockAnswer::Refused { number, place } => {
-            put(answer, number as u64, place as u64, 0, 0)
-        }
-    }
+    *answer = answer_words(aes::block(s, key_shares, block_shares, random, out));
 }
 
 // Watch AES block hands back the same.
@@ -358,17 +263,7 @@ pub extern "C" fn ll_aes_block_watch(
         (aes_watch_output s key_shares.now block_shares.now random.now list.now)
         values.old answer.new values.new }
 {
-    let a = aes::watch_block(s, key_shares, block_shares, random, list, values);
-    match a {
-        AesWatchAnswer::Done {
-            products,
-            random,
-            steps,
-        } => { put(answer, 0, products as u64, random as u64, steps as u64) }
-        AesWatchAnswer::Refused { number, place } => {
-            put(answer, number as u64, place as u64, 0, 0)
-        }
-    }
+    *answer = answer_words(aes::watch_block(s, key_shares, block_shares, random, list, values));
 }
 
 // Split hands nothing back.
@@ -383,11 +278,7 @@ pub extern "C" fn ll_split(
     ensures { Reported (split_outcome (length value.now) s (length masks.now) (length out.old))
         (split_shares s value.now masks.now) out.old answer.new out.new }
 {
-    let a = steps::split(value, s, masks, out);
-    match a {
-        SplitAnswer::Done => put(answer, 0, 0, 0, 0),
-        SplitAnswer::Refused { number, place } => { put(answer, number as u64, place as u64, 0, 0) }
-    }
+    *answer = answer_words(steps::split(value, s, masks, out));
 }
 
 // Join hands nothing back.
@@ -396,9 +287,5 @@ pub extern "C" fn ll_join(shares: &[u8], s: u32, out: &mut [u8], answer: &mut [u
     ensures { Reported (join_outcome (length shares.now) s (length out.old))
         (join_shares (length out.old) s shares.now) out.old answer.new out.new }
 {
-    let a = steps::join(shares, s, out);
-    match a {
-        JoinAnswer::Done => put(answer, 0, 0, 0, 0),
-        JoinAnswer::Refused { number, place } => { put(answer, number as u64, place as u64, 0, 0) }
-    }
+    *answer = answer_words(steps::join(shares, s, out));
 }

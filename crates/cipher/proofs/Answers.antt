@@ -16,16 +16,13 @@ use Rattle.decomposition.specs.Layout.{layout}
 use Rattle.decomposition.specs.Record.{SameRecord, coefficients_of, read_outcome, width_of}
 use Rattle.decomposition.specs.Check.{first_difference, form_in}
 use Rattle.decomposition.proofs.Theorems.{same_read}
-use Rattle.present.specs.Present.{table, size80}
+use Rattle.present.specs.Present.{table}
 use Rattle.present.specs.Decrypt.{inverse_table}
-use Rattle.present.specs.Masked.{masked_encrypt}
-use Rattle.present.specs.Opening.{masked_decrypt}
-use Rattle.cipher.specs.Box.{record_sbox}
-use Rattle.cipher.specs.Figures.{block_products, block_draws, block_steps, figures, open_products, open_draws, open_steps, open_figures}
-use Rattle.cipher.specs.Ciphering.{Ciphering, computes_table, record_tests, argument_tests, call_tests, call_of, figures_for}
+use Rattle.cipher.specs.Figures.{figures, open_figures}
+use Rattle.cipher.specs.Ciphering.{Ciphering, operation, computes_table, record_tests, argument_tests, call_tests, call_of, figures_for}
 use Rattle.cipher.specs.Operations as operations
-use Rattle.cipher.specs.Operations.{sealing, block_call, block_outcome}
-use Rattle.cipher.specs.OpenOperations.{both_tests, opening, open_call, open_outcome, watch_open_outcome}
+use Rattle.cipher.specs.Operations.{sealed, sealing, block_call, block_outcome}
+use Rattle.cipher.specs.OpenOperations.{both_tests, opened, opening, open_call, open_outcome, watch_open_outcome}
 use Rattle.cipher.proofs.Calls.{tests_passed, Good, good_call, call_takes}
 use Rattle.cipher.proofs.Theorems.{sealing_good}
 use Rattle.cipher.proofs.OpenTheorems.{opening_good}
@@ -132,19 +129,7 @@ same_tests t n r r' e =
 pub same_call : (n : ℕ) (r r' : List ℕ) → SameRecord n r r' → (s : ℕ) (key block random : List ℕ)
     → block_call r s key block random ≡ block_call r' s key block random
 same_call n r r' e s key block random =
-    ap₂ (λ (o : Outcome) (cs : List ℕ). call_of (by s o cs) key block random) (same_tests table n r r' e) e.coefficients
-  where
-    -- sealing by what the tests of the record come to and the coefficients
-    by : ℕ → Outcome → List ℕ → Ciphering
-    by s o cs = record {
-      records = o;
-      key_bytes = 10;
-      shares = s;
-      program = masked_encrypt (record_sbox s cs) size80 s;
-      products = block_products;
-      draws = block_draws s;
-      steps = block_steps s;
-    }
+    ap₂ (λ (o : Outcome) (cs : List ℕ). call_of (operation o (sealed cs) s) key block random) (same_tests table n r r' e) e.coefficients
 
 -- and so of both records of an opening
 pub same_open_call : (n : ℕ) (r r' : List ℕ) → SameRecord n r r' → (m : ℕ) (q q' : List ℕ) → SameRecord m q q' → (s : ℕ) (key block random : List ℕ)
@@ -156,13 +141,4 @@ same_open_call n r r' e m q q' f s key block random =
   where
     -- the call by what the tests of either record come to and the coefficients of either
     made : Outcome → Outcome → List ℕ → List ℕ → Call
-    made o p cs ds =
-        call_of (record {
-          records = and_then o p;
-          key_bytes = 10;
-          shares = s;
-          program = masked_decrypt (record_sbox s ds) (record_sbox s cs) size80 s;
-          products = open_products;
-          draws = open_draws s;
-          steps = open_steps s;
-        }) key block random
+    made o p cs ds = call_of (operation (and_then o p) (opened cs ds) s) key block random

@@ -2,7 +2,7 @@
 use mathlib.Core.Path.{◌≡◌, refl, sym, ap, ◌∙◌}
 use mathlib.Core.Bool.{Bool, true, and-eq-true_iff}
 use mathlib.Core.List.{List, [], ◌∷◌}
-use Prim.Native.Nat.{ℕ, ◌*◌, ◌^◌, ◌≤◌, ◌<◌}
+use Prim.Native.Nat.{ℕ, ◌*◌, ◌≤◌, ◌<◌}
 use borrow.Author.Tests.{eqb-true, eq-eqb}
 use lib.Dec.{eqb}
 use lib.ListN.{length}
@@ -13,10 +13,9 @@ use Rattle.refusal.specs.Large.{first_large}
 use Rattle.refusal.proofs.Outcome.{passed, then_passed}
 use Rattle.refusal.proofs.Range.{one_to_range}
 use Rattle.steps.specs.declared.counts.Counts.{Counts}
-use Rattle.steps.specs.Program.{result}
-use Rattle.steps.specs.Sharing.{share, Sharing}
+use Rattle.steps.specs.Sharing.{share}
 use Rattle.steps.specs.Tape.{elements, bytes_for}
-use Rattle.steps.specs.Machine.{zero_counts, Ready, Went, Whole}
+use Rattle.steps.specs.Machine.{State, start_of, Ready, Went, Whole}
 use Rattle.steps.specs.Call.{call_counts, call_result, watch_output, Takes}
 use Rattle.steps.specs.ShareBytes.{share_at, shares_of, sharing, bytes_of}
 use Rattle.steps.proofs.Tape.{elements_nibbles}
@@ -24,7 +23,7 @@ use Rattle.steps.proofs.Call as call
 use Rattle.steps.proofs.Fill.{tabulate_same}
 use Rattle.steps.proofs.View.{share_sharing}
 use Rattle.steps.proofs.ShareBytes.{shares_sharing}
-use Rattle.cipher.specs.Ciphering.{Ciphering, call_lengths, argument_tests, call_tests, call_program, call_of, output_of, Callable}
+use Rattle.cipher.specs.Ciphering.{Ciphering, call_lengths, argument_tests, call_tests, call_program, call_of, output_of, Callable, Right}
 
 -- ---- a call that passes the tests
 
@@ -67,18 +66,6 @@ tests_passed c key block random fits e =
 
 -- ---- what is asked of an operation
 
--- for sharings of any key and block, and random elements
-pub record Right (f : ℕ → ℕ → ℕ) (c : Ciphering) : Type 0 where
-  -- it ends in a sharing of what f gives,
-  pub ends : (k x : ℕ) (ks xs tape : List ℕ) → Sharing (8 * c.key_bytes) c.shares k ks → Sharing 64 c.shares x xs → Small 4 tape
-      → Sharing 64 c.shares (f k x) (result (c.program ks xs) tape)
-  -- and takes what its figures say;
-  pub takes : (k x : ℕ) (ks xs tape : List ℕ) → Sharing (8 * c.key_bytes) c.shares k ks → Sharing 64 c.shares x xs → Small 4 tape
-      → Takes (c.program ks xs) tape c.products c.draws c.steps
-  -- these are few, and there is a step
-  pub few : (c.products < 2 ^ 64) × (c.draws < 2 ^ 64) × (c.steps < 2 ^ 32)
-  pub some_steps : 0 < c.steps
-
 -- so much where its records pass their tests, with 1 to 9 shares
 abbrev pub Good : (ℕ → ℕ → ℕ) → Ciphering → Type 0
 Good f c = (v : List ℕ) → c.records ≡ done v → 0 < c.shares → c.shares ≤ 9 → Right f c
@@ -100,15 +87,16 @@ module _ {f : ℕ → ℕ → ℕ} {c : Ciphering} (right : Right f c) {key bloc
       (shares_sharing 8 c.shares block hb) (elements_nibbles random hr)
 
   -- it may run
-  pub call_ready : {watch vs : List ℕ} → length watch ≡ length vs → Ready (elements 4 random) watch (call_program c key block) zero_counts vs
+  pub call_ready : {watch vs : List ℕ} → length watch ≡ length vs
+      → Ready (call_program c key block) (start_of (elements 4 random) watch vs)
   unfolding call_of
   call_ready e =
       let few = right.few in
       call.call_ready (call_of c key block random) call_takes few.0 few.1 few.2 a.random_length e
 
   -- what a watch leaves, where each number of the list is that of a step
-  pub call_watched : {list vs x vs' : List ℕ} {n : Counts} → length list ≡ length vs → length list ≤ first_large c.steps list
-      → Went (elements 4 random) list (call_program c key block) zero_counts vs x n vs' → vs' ≡ watch_output (call_of c key block random) list
+  pub call_watched : {list vs x : List ℕ} {m : State} → length list ≡ length vs → length list ≤ first_large c.steps list
+      → Went (call_program c key block) (start_of (elements 4 random) list vs) x m → m.values ≡ watch_output (call_of c key block random) list
   unfolding call_of
   call_watched e below w = call.call_watched (call_of c key block random) call_takes right.some_steps e below w
 

@@ -1,4 +1,5 @@
 pub mod Runs
+pub mod Prepared
 pub mod Nibbles
 pub mod Records
 pub mod Box

@@ -31,10 +31,10 @@ use Rattle.present.proofs.Secrecy.{secret_untouched_share, secret_few_steps, cho
 use Rattle.decomposition.specs.Record.{coefficients_of}
 use Rattle.cipher.specs.Box.{record_sbox, open_program}
 use Rattle.cipher.specs.Figures.{open_products, open_draws, open_steps}
-use Rattle.cipher.specs.Ciphering.{experiment_of}
-use Rattle.cipher.specs.OpenOperations.{opening}
+use Rattle.cipher.specs.Ciphering.{Realizes, Right, accepted, experiment_of}
+use Rattle.cipher.specs.OpenOperations.{opened, opening}
 use Rattle.cipher.specs.Experiment.{PresentRecord, InverseRecord, box_shape, open_experiment, open_inputs}
-use Rattle.cipher.proofs.Records.{both_records}
+use Rattle.cipher.proofs.Records.{both_records, record_small, record_realizes}
 use Rattle.cipher.proofs.Calls.{Good}
 use Rattle.cipher.proofs.Box.{substitutes, hides}
 use Rattle.cipher.proofs.Programs.{Figured, run_ends, run_takes, run_draws, pairs_bytes, pairs_full}
@@ -63,18 +63,32 @@ pub choice_is : (s : ℕ) → present_spec.choice_bits size80 s (opening_shape s
 unfolding choice_bits mask_bits
 choice_is s = choice_bits_lem size80 s _ (open_draws s) (bits_of_opening s)
 
-module _ (r q : List ℕ) (accepted : PresentRecord r) (inverse : InverseRecord q) (s : ℕ) (some : 0 < s) (nine : s ≤ 9) where
+-- ---- by the coefficients of two records
+
+module _ (cs ds : List ℕ) (small : Small 4 cs) (realizes : Realizes table cs) (small' : Small 4 ds) (realizes' : Realizes inverse_table ds)
+    (s : ℕ) (some : 0 < s) (nine : s ≤ 9) where
   -- the program computes the decrypted block, and keeps every share apart
-  computes : Computes (decrypt size80) size80 s (opening_shape size80 s (box_shape s)) (open_program r q s)
+  opened_computes : Computes (decrypt size80) size80 s (opening_shape size80 s (box_shape s)) ((opened cs ds).program s)
   unfolding substitute unsubstitute
+  opened_computes =
+      decrypt_joins s (box_shape s) (record_sbox s cs) (record_sbox s ds) (substitutes table cs small realizes s some nine)
+      (substitutes inverse_table ds small' realizes' s some nine) some size80 sound80
+
+  opened_keeps : (u : ℕ) → Keeps u size80 ((opened cs ds).program s)
+  opened_keeps u =
+      decrypt_coupled u (record_sbox s cs) (record_sbox s ds) (hides table cs small realizes s u) (hides inverse_table ds small' realizes' s u)
+      s size80 sound80
+
+module _ (r q : List ℕ) (record_lem : PresentRecord r) (inverse : InverseRecord q) (s : ℕ) (some : 0 < s) (nine : s ≤ 9) where
+  computes : Computes (decrypt size80) size80 s (opening_shape size80 s (box_shape s)) (open_program r q s)
   computes =
-      decrypt_joins s (box_shape s) (record_sbox s (coefficients_of r)) (record_sbox s (coefficients_of q)) (substitutes table r accepted s some nine)
-      (substitutes inverse_table q inverse s some nine) some size80 sound80
+      opened_computes (coefficients_of r) (coefficients_of q) (record_small record_lem) (record_realizes record_lem)
+      (record_small inverse) (record_realizes inverse) s some nine
 
   keeps : (u : ℕ) → Keeps u size80 (open_program r q s)
-  keeps u =
-      decrypt_coupled u (record_sbox s (coefficients_of r)) (record_sbox s (coefficients_of q)) (hides table r accepted s u) (hides inverse_table q inverse s u)
-      s size80 sound80
+  keeps =
+      opened_keeps (coefficients_of r) (coefficients_of q) (record_small record_lem) (record_realizes record_lem)
+      (record_small inverse) (record_realizes inverse) s some nine
 
   -- ---- a run, on sharings of the key k and the block y
 
@@ -137,15 +151,23 @@ some_steps : (s : ℕ) → 0 < s → 0 < open_steps s
 unfolding open_steps
 some_steps s h = omega arith
 
-pub opening_good : (r q : List ℕ) (s : ℕ) → Good (decrypt size80) (opening r q s)
-opening_good r q s v e some nine =
-    let both = both_records r q e in
+pub opened_right : (cs ds : List ℕ) → Small 4 cs → Realizes table cs → Small 4 ds → Realizes inverse_table ds → (s : ℕ) → 0 < s → s ≤ 9
+    → Right (decrypt size80) (accepted (opened cs ds) s)
+opened_right cs ds small realizes small' realizes' s some nine =
+    let computes = opened_computes cs ds small realizes small' realizes' s some nine in
     record {
-      ends = λ k y ks ys tape key block small. result_sharing r q both.0 both.1 s some nine k y ks ys tape key block small;
-      takes = λ k y ks ys tape key block small. takes r q both.0 both.1 s some nine k y ks ys tape key block small;
+      ends = λ k y ks ys tape key block elements. run_ends size80 computes (opening_figured s some) key block tape elements;
+      takes = λ k y ks ys tape key block elements. run_takes size80 computes (opening_figured s some) key block tape elements;
       few = few_taken s nine;
       some_steps = some_steps s some;
     }
+
+pub opening_good : (r q : List ℕ) (s : ℕ) → Good (decrypt size80) (opening r q s)
+opening_good r q s v e some nine =
+    let both = both_records r q e in
+    let right = opened_right (coefficients_of r) (coefficients_of q) (record_small both.0) (record_realizes both.0) (record_small both.1)
+    (record_realizes both.1) s some nine in
+    record { ends = right.ends; takes = right.takes; few = right.few; some_steps = right.some_steps }
 
 -- ---- in bytes
 

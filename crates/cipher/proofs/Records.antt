@@ -1,32 +1,29 @@
 -- The laws of records: those that pass the tests of a table, and what the code asks of them.
-use mathlib.Core.Path.{◌≡◌, refl, sym, ap, ◌∙◌}
+use mathlib.Core.Path.{◌≡◌, refl, sym, ap, ap₂, ◌∙◌}
 use mathlib.Core.Bool.{Bool, false, true}
 use mathlib.Core.List.{List, [], ◌∷◌}
-use Prim.Native.Nat.{ℕ, ◌≤◌, ◌<◌}
+use Prim.Native.Nat.{ℕ, ◌%◌}
 use native.Mathlib.Omega.{arith}
-use borrow.Author.Tests.{eqb-true}
+use borrow.Author.Tests.{eqb-true, le-leb, lt-leb}
 use lib.Dec.{eqb}
-use lib.ListN.{length, drop}
-use Rattle.xor.specs.Sum.{join, Small}
-use Rattle.xor.proofs.Sum.{small_drop}
+use lib.ListN.{length}
+use Rattle.std.specs.Prelude.{Some, None}
+use Rattle.xor.specs.Sum.{Small}
 use Rattle.refusal.specs.Outcome.{done, refused, test}
-use Rattle.refusal.specs.Large.{first_large}
+use Rattle.refusal.specs.Large.{first_large, found}
 use Rattle.refusal.proofs.Outcome.{passed, then_passed}
-use Rattle.steps.specs.Tape.{elements}
-use Rattle.steps.proofs.Tape.{elements_nibbles}
-use Rattle.decomposition.specs.Layout.{layout, sized, record_size}
-use Rattle.decomposition.specs.Record.{coefficients_of, version_of, width_of, outputs_of, read_outcome, Accepted}
-use Rattle.decomposition.specs.Check.{record_output, first_difference, check_outcome}
+use Rattle.refusal.proofs.Large.{found_some, found_nothing}
+use Rattle.decomposition.specs.declared.layouts.Layout.{Layout}
+use Rattle.decomposition.specs.Layout.{layout, sized}
+use Rattle.decomposition.specs.Record.{coefficients_of, layout_of, width_of, outputs_of, read_outcome, Accepted}
+use Rattle.decomposition.specs.Check.{form_in, record_output, first_difference, check_outcome}
 use Rattle.decomposition.proofs.ReadOutcome.{read_values, read_accepted}
-use Rattle.decomposition.proofs.Sizes.{outputs_4}
-use Rattle.sbox.proofs.Record.{accepted_record}
-use Rattle.sbox.proofs.Runs.{result_sharing, result_places}
+use Rattle.decomposition.proofs.Sizes.{outputs_4, layout_width, layout_4_4}
+use Rattle.decomposition.proofs.Theorems.{check_whole}
 use Rattle.present.specs.Present.{table}
 use Rattle.present.specs.Decrypt.{inverse_table}
-use Rattle.cipher.specs.Box.{record_sbox}
-use Rattle.cipher.specs.Rounds.{Closed}
 use Rattle.cipher.specs.OpenOperations.{both_tests}
-use Rattle.cipher.specs.Ciphering.{RecordOf, Nibbles, computes_table, record_tests}
+use Rattle.cipher.specs.Ciphering.{RecordOf, Realizes, Nibbles, computes_table, record_tests}
 
 -- ---- the test of the table
 
@@ -91,7 +88,45 @@ pub both_pass : (r q : List ℕ) → RecordOf table r → RecordOf inverse_table
 unfolding both_tests
 both_pass r q h k = rw (present_passes r h, of_passes inverse_table q inverse_nibbles k) refl
 
--- ---- what the code asks
+-- ---- the tests, from what Read hands on: a layout and coefficients
+
+module _ (t r : List ℕ) {L : Layout} {cs : List ℕ} (read : read_outcome r ≡ done (L.width ∷ [])) (same : (L ≡ layout_of r) × (cs ≡ coefficients_of r)) where
+  named : L.width ≡ width_of r
+  named = ap (λ (l : Layout). l.width) same.0 ∙ layout_width (width_of r) (outputs_of r)
+
+  pub other_width : eqb L.width 4 ≡ false → record_tests t r ≡ refused 1 0
+  unfolding record_tests
+  other_width e = rw (read, ← named, e) refl
+
+  module _ (e : eqb L.width 4 ≡ true) where
+    accepted_four : Accepted 4 r
+    accepted_four = read_accepted r 4 (read ∙ ap (λ (n : ℕ). done (n ∷ [])) (eqb-true _ _ e))
+
+    pub layout_four : L ≡ layout 4 4
+    layout_four = same.0 ∙ ap₂ layout accepted_four.named (outputs_4 4 (outputs_of r) accepted_four.pair refl)
+
+    pub inputs_four : L.inputs ≡ 16
+    inputs_four = ap (λ (l : Layout). l.inputs) (layout_four ∙ layout_4_4)
+
+    pub nibbles_read : Small 4 cs
+    nibbles_read = rw same.1 accepted_four.elements
+
+    -- what Check compares
+    abbrev pub difference : ℕ
+    difference = first_difference (λ x. form_in L cs x % L.entries) t
+
+    difference_is : difference ≡ first_difference (record_output (layout 4 4) r) t
+    difference_is = ap₂ (λ (l : Layout) (c : List ℕ). first_difference (λ x. form_in l c x % l.entries) t) layout_four same.1
+
+    pub table_differs : {at : ℕ} → found difference (length t) ≡ Some at → record_tests t r ≡ refused 6 0
+    unfolding record_tests computes_table
+    table_differs h = rw (read, ← named, e, ← difference_is, lt-leb (length t) difference (found_some h).0) refl
+
+    pub table_agrees : found difference (length t) ≡ None → record_tests t r ≡ done []
+    unfolding record_tests computes_table
+    table_agrees h = rw (read, ← named, e, ← difference_is, le-leb (length t) difference (found_nothing h)) refl
+
+-- ---- the coefficients of a record of a table
 
 module _ {t r : List ℕ} (h : RecordOf t r) where
   accepted : Accepted 4 r
@@ -100,18 +135,12 @@ module _ {t r : List ℕ} (h : RecordOf t r) where
   four : outputs_of r ≡ 4
   four = outputs_4 4 (outputs_of r) accepted.pair refl
 
-  -- it is as long as the code asks
-  pub record_room : record_size (version_of r) (layout 4 4) ≤ length r
-  record_room = let w = rw four at accepted.whole in omega (arith, w)
+  -- they are nibbles,
+  pub record_small : Small 4 (coefficients_of r)
+  record_small = accepted.elements
 
-  -- its S-box takes sharings of nibbles to sharings of nibbles
-  pub record_closed : {s : ℕ} → 0 < s → s ≤ 9 → (random : List ℕ) → Small 8 random → Closed s (elements 4 random) (record_sbox s (coefficients_of r))
-  record_closed {s} some nine random hr =
-      let tape = elements 4 random in
-      let coefficients = rw four at (accepted_record 4 r accepted) in
-      let small : (d : ℕ) → Small 4 (drop d tape) = λ d. small_drop 4 d tape (elements_nibbles random hr) in
-      record {
-        places = λ x d h. result_places coefficients s (join x) x (drop d tape) some nine h (small d);
-        nibbles = λ x d h. let k = result_sharing coefficients s (join x) x (drop d tape) some nine h (small d) in
-            record { small = k.small; past = k.past; joins = refl };
-      }
+  -- and the form with them is the table
+  pub record_realizes : Realizes t (coefficients_of r)
+  record_realizes x small =
+      let named = accepted.named in
+      rw (named, four) at (check_whole r t h.checked (four ∙ sym named) x (rw named small))

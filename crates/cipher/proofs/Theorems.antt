@@ -32,10 +32,10 @@ use Rattle.present.proofs.Secrecy.{secret_untouched_share, secret_few_steps, cho
 use Rattle.decomposition.specs.Record.{coefficients_of}
 use Rattle.cipher.specs.Box.{record_sbox, block_program}
 use Rattle.cipher.specs.Figures.{block_products, block_draws, block_steps}
-use Rattle.cipher.specs.Ciphering.{experiment_of}
-use Rattle.cipher.specs.Operations.{sealing}
+use Rattle.cipher.specs.Ciphering.{Realizes, Right, accepted, experiment_of}
+use Rattle.cipher.specs.Operations.{sealed, sealing}
 use Rattle.cipher.specs.Experiment.{PresentRecord, box_shape, experiment, block_inputs}
-use Rattle.cipher.proofs.Records.{present_record}
+use Rattle.cipher.proofs.Records.{present_record, record_small, record_realizes}
 use Rattle.cipher.proofs.Calls.{Good}
 use Rattle.cipher.proofs.Box.{substitutes, hides}
 use Rattle.cipher.proofs.Programs.{Figured, run_ends, run_takes, run_draws, pairs_bytes, pairs_full}
@@ -79,14 +79,23 @@ pub choice_is : (s : ℕ) → present_spec.choice_bits size80 s (block_shape siz
 unfolding choice_bits mask_bits
 choice_is s = choice_bits_lem size80 s _ (block_draws s) (bits_of_block s)
 
-module _ (r : List ℕ) (accepted : PresentRecord r) (s : ℕ) (some : 0 < s) (nine : s ≤ 9) where
+-- ---- by the coefficients of a record
+
+module _ (cs : List ℕ) (small : Small 4 cs) (realizes : Realizes table cs) (s : ℕ) (some : 0 < s) (nine : s ≤ 9) where
   -- the program computes the block, and keeps every share apart
-  computes : Computes (encrypt size80) size80 s (block_shape size80 s (box_shape s)) (block_program r s)
+  sealed_computes : Computes (encrypt size80) size80 s (block_shape size80 s (box_shape s)) ((sealed cs).program s)
   unfolding substitute
-  computes = encrypt_joins s (box_shape s) (record_sbox s (coefficients_of r)) (substitutes table r accepted s some nine) some size80 sound80
+  sealed_computes = encrypt_joins s (box_shape s) (record_sbox s cs) (substitutes table cs small realizes s some nine) some size80 sound80
+
+  sealed_keeps : (u : ℕ) → Keeps u size80 ((sealed cs).program s)
+  sealed_keeps u = encrypt_coupled u (record_sbox s cs) (hides table cs small realizes s u) s size80 sound80
+
+module _ (r : List ℕ) (record_lem : PresentRecord r) (s : ℕ) (some : 0 < s) (nine : s ≤ 9) where
+  computes : Computes (encrypt size80) size80 s (block_shape size80 s (box_shape s)) (block_program r s)
+  computes = sealed_computes (coefficients_of r) (record_small record_lem) (record_realizes record_lem) s some nine
 
   keeps : (u : ℕ) → Keeps u size80 (block_program r s)
-  keeps u = encrypt_coupled u (record_sbox s (coefficients_of r)) (hides table r accepted s u) s size80 sound80
+  keeps = sealed_keeps (coefficients_of r) (record_small record_lem) (record_realizes record_lem) s some nine
 
   -- ---- a run, on sharings of the key k and the block x
 
@@ -152,15 +161,21 @@ some_steps : (s : ℕ) → 0 < s → 0 < block_steps s
 unfolding block_steps
 some_steps s h = omega arith
 
-pub sealing_good : (r : List ℕ) (s : ℕ) → Good (encrypt size80) (sealing r s)
-sealing_good r s v e some nine =
-    let accepted = present_record r e in
+pub sealed_right : (cs : List ℕ) → Small 4 cs → Realizes table cs → (s : ℕ) → 0 < s → s ≤ 9 → Right (encrypt size80) (accepted (sealed cs) s)
+sealed_right cs small realizes s some nine =
+    let computes = sealed_computes cs small realizes s some nine in
     record {
-      ends = λ k x ks xs tape key block small. result_sharing r accepted s some nine k x ks xs tape key block small;
-      takes = λ k x ks xs tape key block small. takes r accepted s some nine k x ks xs tape key block small;
+      ends = λ k x ks xs tape key block elements. run_ends size80 computes (block_figured s some) key block tape elements;
+      takes = λ k x ks xs tape key block elements. run_takes size80 computes (block_figured s some) key block tape elements;
       few = few_taken s nine;
       some_steps = some_steps s some;
     }
+
+pub sealing_good : (r : List ℕ) (s : ℕ) → Good (encrypt size80) (sealing r s)
+sealing_good r s v e some nine =
+    let h = present_record r e in
+    let right = sealed_right (coefficients_of r) (record_small h) (record_realizes h) s some nine in
+    record { ends = right.ends; takes = right.takes; few = right.few; some_steps = right.some_steps }
 
 -- ---- in bytes
 

@@ -1,12 +1,13 @@
 -- What the masked operations of a key and a block have in common: the tests of their arguments, the call, and what is written. Shares lie one after the
 -- other, share 0 first.
-use Rattle.std.specs.Prelude.{◌≡◌, Bool, ◌&&◌, List, [], ◌∷◌, ℕ, ◌*◌, ◌≤◌, ◌<◌, leb, eqb, length}
+use Rattle.std.specs.Prelude.{◌≡◌, Bool, ◌&&◌, List, [], ◌∷◌, ℕ, ◌*◌, ◌≤◌, ◌<◌, leb, eqb, length, get_or, ◌^◌}
 use Rattle.refusal.specs.Outcome.{Outcome, done, test, and_then}
 use Rattle.refusal.specs.Range.{one_to}
 use Rattle.refusal.specs.Large.{first_large}
-use Rattle.steps.specs.Program.{Run}
-use Rattle.steps.specs.Call.{Call, call_result}
-use Rattle.steps.specs.Sharing.{share}
+use Rattle.xor.specs.Sum.{Small}
+use Rattle.steps.specs.Program.{Run, result}
+use Rattle.steps.specs.Call.{Call, call_result, Takes}
+use Rattle.steps.specs.Sharing.{share, Sharing}
 use Rattle.steps.specs.Fill.{tabulate}
 use Rattle.steps.specs.Tape.{bytes_for}
 use Rattle.steps.specs.Settled.{string, Inputs}
@@ -14,7 +15,7 @@ use Rattle.steps.specs.ShareBytes.{shares_of, bytes_of}
 use Rattle.steps.specs.TwoSecrets.{split_two}
 use Rattle.decomposition.specs.Layout.{layout}
 use Rattle.decomposition.specs.Record.{width_of, read_outcome}
-use Rattle.decomposition.specs.Check.{record_output, first_difference, check_outcome}
+use Rattle.decomposition.specs.Check.{form_in, record_output, first_difference, check_outcome}
 use Rattle.present.specs.Present.{State}
 
 -- ---- a record of a table
@@ -27,6 +28,10 @@ pub record RecordOf (t r : List ℕ) : Type 0 where
 -- sixteen nibbles
 abbrev pub Nibbles : List ℕ → Type 0
 Nibbles t = (length t ≡ 16) × (first_large 16 t ≡ 16)
+
+-- the form with these coefficients, of four bits in and four out, is the table t
+abbrev pub Realizes : List ℕ → List ℕ → Type 0
+Realizes t coefficients = (x : ℕ) → x < 16 → form_in (layout 4 4) coefficients x ≡ get_or t x 0
 
 -- does the output of a record of width 4 compute the table t?
 unfoldable pub computes_table : List ℕ → List ℕ → Bool
@@ -55,6 +60,33 @@ pub record Ciphering : Type 0 where
   pub products : ℕ
   pub draws : ℕ
   pub steps : ℕ
+
+-- a masked cipher with keys of 10 bytes, by the number of shares
+pub record Cipher : Type 0 where
+  -- what it computes of a key and a block
+  pub computes : ℕ → ℕ → ℕ
+  -- its steps, on the shares of a key and of a block
+  pub program : ℕ → List ℕ → List ℕ → Run (List ℕ)
+  -- how many masked products, random elements, of 4 bits, and steps it has
+  pub products : ℕ
+  pub draws : ℕ → ℕ
+  pub steps : ℕ → ℕ
+
+-- its operation on s shares, by what the tests of its records come to
+abbrev pub operation : Outcome → Cipher → ℕ → Ciphering
+operation records c s = record {
+  records = records;
+  key_bytes = 10;
+  shares = s;
+  program = c.program s;
+  products = c.products;
+  draws = c.draws s;
+  steps = c.steps s;
+}
+
+-- and where these are passed
+abbrev pub accepted : Cipher → ℕ → Ciphering
+accepted = operation (done [])
 
 -- the lengths for s shares of a key of w bytes and of a block, and d random elements: of the shares of the key, of those of the block, of the random
 -- bytes, and, as `fits` says, of what is lent for output
@@ -102,6 +134,18 @@ pub record Callable (c : Ciphering) (key block random : List ℕ) : Type 0 where
   pub key_length : length key ≡ c.key_bytes * c.shares
   pub block_length : length block ≡ 8 * c.shares
   pub random_length : length random ≡ bytes_for 4 c.draws
+
+-- What is asked of one that computes f, for sharings of any key and block, and random elements.
+pub record Right (f : ℕ → ℕ → ℕ) (c : Ciphering) : Type 0 where
+  -- it ends in a sharing of what f gives,
+  pub ends : (k x : ℕ) (ks xs tape : List ℕ) → Sharing (8 * c.key_bytes) c.shares k ks → Sharing 64 c.shares x xs → Small 4 tape
+      → Sharing 64 c.shares (f k x) (result (c.program ks xs) tape)
+  -- and takes what its figures say;
+  pub takes : (k x : ℕ) (ks xs tape : List ℕ) → Sharing (8 * c.key_bytes) c.shares k ks → Sharing 64 c.shares x xs → Small 4 tape
+      → Takes (c.program ks xs) tape c.products c.draws c.steps
+  -- these are few, and there is a step
+  pub few : (c.products < 2 ^ 64) × (c.draws < 2 ^ 64) × (c.steps < 2 ^ 32)
+  pub some_steps : 0 < c.steps
 
 -- ---- its secrets and choices
 

@@ -1,3 +1,4 @@
+pub mod Past
 pub mod Box
 pub mod Rounds
 pub mod Figures

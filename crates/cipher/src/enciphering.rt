@@ -1,38 +1,72 @@
-// The operation Block.
-ghost use Rattle.std.specs.Prelude.{◌≡◌, ◌*◌, length};
-ghost use Rattle.refusal.specs.Outcome.{done, refused, Answered};
-ghost use Rattle.steps.specs.Call.{call_counts};
-ghost use Rattle.cipher.specs.Ciphering.{Callable};
-ghost use Rattle.cipher.specs.Operations.{sealing, block_call, block_report, block_outcome, block_output};
+// The operations Block and Watch block.
+ghost use Rattle.std.specs.Prelude.{◌≡◌, [], length, IfOk};
+ghost use Rattle.refusal.specs.Outcome.{Answered};
+ghost use Rattle.refusal.specs.Refusals.{report};
+ghost use Rattle.steps.specs.Taken.{handed};
+ghost use Rattle.decomposition.specs.Record.{coefficients_of};
+ghost use Rattle.present.specs.Present.{table};
+ghost use Rattle.cipher.specs.Ciphering.{Realizes, record_tests};
+ghost use Rattle.cipher.specs.Operations.{sealed, block_outcome, block_output, watch_outcome, watch_output};
 
-use crate::arguments::{Tested, call_tests};
-use crate::encryption::encrypt;
-use steps::bytes_for;
+use crate::calling::{Ciphering, call, watch};
+use crate::figures::{draw_count, step_count};
+use crate::linear_parts::{BlockShares, add_round_key};
+use crate::nibble_box::NibbleBox;
+use crate::rounds::RoundState;
+use refusal::Refusal;
+use steps::machine::Machine;
+use steps::{ShareCount, Taken};
 
-// The answer of Block: how many masked products, random bytes and steps it took.
+// The table of PRESENT's S-box.
+const TABLE: [u8; 16] = [12, 5, 6, 11, 9, 0, 10, 13, 3, 14, 15, 8, 4, 7, 1, 2];
+
+// Masked encryption, by a record of the table.
 #[derive(Clone, Copy)]
-pub enum BlockAnswer {
-    Done {
-        products: usize,
-        random: usize,
-        steps: u32,
-    },
-    Refused {
-        number: u8,
-        place: usize,
-    },
+pub struct Sealing<'a> {
+    pub nibble_box: NibbleBox<'a>,
+    pub ghost realizes: { Realizes table nibble_box.record.coefficients.now },
 }
 
-impl BlockAnswer {
-    // A refusal.
-    fn refuse(number: u8, place: usize) -> BlockAnswer
-        ensures { block_report result ≡ refused number place }
+impl<'a> Sealing<'a> {
+    // The tests of the record.
+    pub fn new(bytes: &'a [u8]) -> Result<Sealing<'a>, Refusal>
+        ensures outcome { report (λ _. []) result ≡ record_tests table bytes.now }
+        ensures coefficients { IfOk result (λ x. x.nibble_box.record.coefficients.now ≡ coefficients_of bytes.now) }
     {
-        BlockAnswer::Refused { number, place }
+        let table = TABLE;
+        let nibble_box = NibbleBox::of(&table, bytes)?;
+        Ok(Sealing { nibble_box })
+    }
+}
+
+impl Ciphering for Sealing<'_> {
+    ghost cipher = { λ x. sealed x.nibble_box.record.coefficients.now };
+
+    fn draw_count(&self, s: ShareCount) -> usize {
+        draw_count(s.count)
+    }
+
+    fn step_count(&self, s: ShareCount) -> u32 {
+        step_count(s.count as u32)
+    }
+
+    fn run<M: Machine>(
+        &self,
+        machine: &mut M,
+        s: ShareCount,
+        key: &[u8],
+        block: &[u8],
+    ) -> BlockShares {
+        let mut loaded = RoundState::load(s, key, block);
+        let state = &mut loaded;
+        state.rounds(machine, &self.nibble_box);
+        add_round_key(machine, s, &state.key, &mut state.block);
+        state.block
     }
 }
 
 // The masked block of s shares, 1 to 9, of a key and of a block, by a record of PRESENT's S-box. `out` takes the shares of the result.
+// It hands back how many masked products, random bytes and steps it took.
 // Refused: as Read; 1 width 6; 6 another table; 7 share count; 2 a length; 3 a random element too large. Then `out` is unchanged.
 pub fn block(
     rec: &[u8],
@@ -41,44 +75,32 @@ pub fn block(
     block: &[u8],
     random: &[u8],
     out: &mut [u8],
-) -> BlockAnswer
+) -> Result<Taken, Refusal>
     ensures { Answered
         (block_outcome rec.now s key.now block.now random.now (length out.old))
         (block_output rec.now s key.now block.now random.now)
-        out.old (block_report result) out.new }
+        out.old (report handed result) out.new }
 {
-    let count = s as usize;
-    let fits = out.len() == 8 * count;
-    let tested = call_tests(rec, s, key, block, random, fits);
-    match tested {
-        Tested::Refused { number, place } => BlockAnswer::refuse(number, place),
-        Tested::Passed => encipher(count, rec, key, block, random, out),
-    }
+    call(&Sealing::new(rec)?, s, key, block, random, out)
 }
 
-// The same where the tests are passed.
-fn encipher(
-    s: usize,
+// The masked block under a watch: value k is what the step whose number stands at place k of the list records.
+// It hands back how many masked products, random bytes and steps it took.
+// Refused: as Block; 2 also for lengths of list and values that differ, or over 64 numbers; last 8, a number that is not a step's.
+// Then `values` is unchanged.
+pub fn watch_block(
     rec: &[u8],
+    s: u32,
     key: &[u8],
     block: &[u8],
     random: &[u8],
-    out: &mut [u8],
-) -> BlockAnswer
-    requires callable { Callable (sealing rec.now s) key.now block.now random.now }
-    requires out_len { length out.old ≡ 8 * s }
-    ensures { Answered (done (call_counts (block_call rec.now s key.now block.now random.now)))
-        (block_output rec.now s key.now block.now random.now)
-        out.old (block_report result) out.new }
+    list: &[u32],
+    values: &mut [u8],
+) -> Result<Taken, Refusal>
+    ensures { Answered
+        (watch_outcome rec.now s key.now block.now random.now list.now (length values.old))
+        (watch_output rec.now s key.now block.now random.now list.now)
+        values.old (report handed result) values.new }
 {
-    let e = encrypt(s, rec, key, block, random, &[], &mut []);
-    let b = e.block;
-    layers::store(s, &b, out);
-    let n = e.counts;
-    let drawn = bytes_for(4, n.random);
-    BlockAnswer::Done {
-        products: n.products,
-        random: drawn,
-        steps: n.steps,
-    }
+    watch(&Sealing::new(rec)?, s, key, block, random, list, values)
 }

@@ -1,23 +1,18 @@
-// Masked PRESENT-80. The operations Block and Watch block are `enciphering::block` and `watching::watch_block`; both take their steps in
-// `encryption::encrypt`, whose parts are the modules `rounds`, `linear_parts`, `substitution` and `recording`. Open and Watch open are `opening::open`
-// and `open_watching::watch_open`; both take their steps in `decryption::decrypt`, whose rounds are in `undoing`.
+// Masked PRESENT-80. The operations Block and Watch block are `enciphering::block` and `enciphering::watch_block`, Open and Watch open are
+// `opening::open` and `opening::watch_open`. Each parses its records and then makes a call or a watch, which all of them share (`calling`); what it
+// runs, on the modules from `rounds` on, is its `run`.
 #![tactic(auto)]
 
-mod arguments;
-mod decryption;
+mod calling;
 pub mod enciphering;
-mod encryption;
 pub mod figures;
+mod key_schedule;
 mod linear_parts;
-pub mod open_watching;
+mod nibble_box;
 pub mod opening;
 mod recording;
 mod rounds;
-mod substitution;
 mod undoing;
-pub mod watching;
 
-pub use enciphering::{BlockAnswer, block};
-pub use open_watching::{WatchOpenAnswer, watch_open};
-pub use opening::{OpenAnswer, open};
-pub use watching::{WatchAnswer, watch_block};
+pub use enciphering::{block, watch_block};
+pub use opening::{open, watch_open};

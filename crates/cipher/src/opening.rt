@@ -1,39 +1,80 @@
-// The operation Open.
-ghost use Rattle.std.specs.Prelude.{◌≡◌, ◌*◌, length};
-ghost use Rattle.refusal.specs.Outcome.{done, refused, Answered};
-ghost use Rattle.steps.specs.Call.{call_counts};
-ghost use Rattle.cipher.specs.Ciphering.{Callable};
-ghost use Rattle.cipher.specs.OpenOperations.{opening, open_call, open_report, open_outcome, open_output};
+// The operations Open and Watch open.
+ghost use Rattle.std.specs.Prelude.{◌≡◌, [], length, IfOk};
+ghost use Rattle.refusal.specs.Outcome.{Answered};
+ghost use Rattle.refusal.specs.Refusals.{report};
+ghost use Rattle.steps.specs.Taken.{handed};
+ghost use Rattle.decomposition.specs.Record.{coefficients_of};
+ghost use Rattle.present.specs.Present.{table};
+ghost use Rattle.present.specs.Decrypt.{inverse_table};
+ghost use Rattle.cipher.specs.Ciphering.{Realizes};
+ghost use Rattle.cipher.specs.OpenOperations.{both_tests, opened, open_outcome, open_output, watch_open_outcome, watch_open_output};
 
-use crate::arguments::{Tested, open_tests};
-use crate::decryption::decrypt;
-use steps::bytes_for;
+use crate::calling::{Ciphering, call, watch};
+use crate::enciphering::Sealing;
+use crate::figures::{open_draw_count, open_step_count};
+use crate::key_schedule::run_key;
+use crate::linear_parts::{BlockShares, add_round_key};
+use crate::nibble_box::NibbleBox;
+use crate::rounds::RoundState;
+use refusal::Refusal;
+use steps::machine::Machine;
+use steps::{ShareCount, Taken};
 
-// The answer of Open: how many masked products, random bytes and steps it took.
+// The table of the inverse S-box.
+const INVERSE: [u8; 16] = [5, 14, 15, 8, 12, 1, 2, 13, 11, 4, 6, 3, 0, 7, 9, 10];
+
+// Masked decryption, by a record of the table, for the key, and one of the inverse table.
 #[derive(Clone, Copy)]
-pub enum OpenAnswer {
-    Done {
-        products: usize,
-        random: usize,
-        steps: u32,
-    },
-    Refused {
-        number: u8,
-        place: usize,
-    },
+pub struct Opening<'a> {
+    pub sealing: Sealing<'a>,
+    pub inverse: NibbleBox<'a>,
+    pub ghost realizes: { Realizes inverse_table inverse.record.coefficients.now },
 }
 
-impl OpenAnswer {
-    // A refusal.
-    fn refuse(number: u8, place: usize) -> OpenAnswer
-        ensures { open_report result ≡ refused number place }
+impl<'a> Opening<'a> {
+    // The tests of the two records.
+    pub fn new(bytes: &'a [u8], inverse: &'a [u8]) -> Result<Opening<'a>, Refusal>
+        ensures outcome { report (λ _. []) result ≡ both_tests bytes.now inverse.now }
+        ensures coefficients { IfOk result (λ x. (x.sealing.nibble_box.record.coefficients.now ≡ coefficients_of bytes.now)
+            × (x.inverse.record.coefficients.now ≡ coefficients_of inverse.now)) }
     {
-        OpenAnswer::Refused { number, place }
+        let sealing = Sealing::new(bytes)?;
+        let table = INVERSE;
+        let inverse = NibbleBox::of(&table, inverse)?;
+        Ok(Opening { sealing, inverse })
+    }
+}
+
+impl Ciphering for Opening<'_> {
+    ghost cipher = { λ x. opened x.sealing.nibble_box.record.coefficients.now x.inverse.record.coefficients.now };
+
+    fn draw_count(&self, s: ShareCount) -> usize {
+        open_draw_count(s.count)
+    }
+
+    fn step_count(&self, s: ShareCount) -> u32 {
+        open_step_count(s.count as u32)
+    }
+
+    fn run<M: Machine>(
+        &self,
+        machine: &mut M,
+        s: ShareCount,
+        key: &[u8],
+        block: &[u8],
+    ) -> BlockShares {
+        let mut loaded = RoundState::load(s, key, block);
+        let state = &mut loaded;
+        run_key(machine, &self.sealing.nibble_box, s, &mut state.key);
+        add_round_key(machine, s, &state.key, &mut state.block);
+        state.undo_rounds(machine, &self.inverse);
+        state.block
     }
 }
 
 // The masked opening of s shares, 1 to 9, of a key and of a block, by a record of PRESENT's S-box and one of its inverse. `out` takes the shares of the
-// result. Refused: the first record as in Block; then the second by the same rules; 7 share count; 2 a length. Then `out` is unchanged.
+// result. It hands back how many masked products, random bytes and steps it took.
+// Refused: the first record as in Block; then the second by the same rules; 7 share count; 2 a length. Then `out` is unchanged.
 pub fn open(
     rec: &[u8],
     inverse: &[u8],
@@ -42,45 +83,41 @@ pub fn open(
     block: &[u8],
     random: &[u8],
     out: &mut [u8],
-) -> OpenAnswer
+) -> Result<Taken, Refusal>
     ensures { Answered
         (open_outcome rec.now inverse.now s key.now block.now random.now (length out.old))
         (open_output rec.now inverse.now s key.now block.now random.now)
-        out.old (open_report result) out.new }
+        out.old (report handed result) out.new }
 {
-    let count = s as usize;
-    let fits = out.len() == 8 * count;
-    let tested = open_tests(rec, inverse, s, key, block, random, fits);
-    match tested {
-        Tested::Refused { number, place } => OpenAnswer::refuse(number, place),
-        Tested::Passed => decipher(count, rec, inverse, key, block, random, out),
-    }
+    call(&Opening::new(rec, inverse)?, s, key, block, random, out)
 }
 
-// The same where the tests are passed.
-fn decipher(
-    s: usize,
+// The masked opening under a watch: value k is what the step whose number stands at place k of the list records.
+// It hands back how many masked products, random bytes and steps it took.
+// Refused: as Open; 2 also for lengths of list and values that differ, or over 64 numbers; last 8, a number that is not a step's.
+// Then `values` is unchanged.
+pub fn watch_open(
     rec: &[u8],
     inverse: &[u8],
+    s: u32,
     key: &[u8],
     block: &[u8],
     random: &[u8],
-    out: &mut [u8],
-) -> OpenAnswer
-    requires callable { Callable (opening rec.now inverse.now s) key.now block.now random.now }
-    requires out_len { length out.old ≡ 8 * s }
-    ensures { Answered (done (call_counts (open_call rec.now inverse.now s key.now block.now random.now)))
-        (open_output rec.now inverse.now s key.now block.now random.now)
-        out.old (open_report result) out.new }
+    list: &[u32],
+    values: &mut [u8],
+) -> Result<Taken, Refusal>
+    ensures { Answered
+        (watch_open_outcome rec.now inverse.now s key.now block.now random.now list.now (length values.old))
+        (watch_open_output rec.now inverse.now s key.now block.now random.now list.now)
+        values.old (report handed result) values.new }
 {
-    let e = decrypt(s, rec, inverse, key, block, random, &[], &mut []);
-    let b = e.block;
-    layers::store(s, &b, out);
-    let n = e.counts;
-    let drawn = bytes_for(4, n.random);
-    OpenAnswer::Done {
-        products: n.products,
-        random: drawn,
-        steps: n.steps,
-    }
+    watch(
+        &Opening::new(rec, inverse)?,
+        s,
+        key,
+        block,
+        random,
+        list,
+        values,
+    )
 }

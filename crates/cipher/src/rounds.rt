@@ -1,124 +1,83 @@
 // The rounds of a masked block.
-ghost use Rattle.std.specs.Prelude.{◌<◌, ◌≤◌, length};
-ghost use Rattle.decomposition.specs.Layout.{layout};
+ghost use Rattle.std.specs.Prelude.{◌≡◌, ◌*◌, ◌<◌, ◌≤◌, length, replicate};
+ghost use Rattle.std.proofs.Math.Seq.{paste};
 ghost use Rattle.steps.specs.Program.{for};
-ghost use Rattle.steps.specs.Tape.{elements};
-ghost use Rattle.steps.specs.Machine.{Ready, Went};
+ghost use Rattle.steps.specs.Machine.{Went};
+ghost use Rattle.steps.specs.ShareBytes.{sharing};
+ghost use Rattle.cipher.specs.Past.{ZeroPastShares};
 ghost use Rattle.present.specs.Present.{size80};
-ghost use Rattle.present.specs.Masked.{masked_update, masked_round};
-ghost use Rattle.steps.specs.ShareBytes.{sharing, KeptPast};
-ghost use Rattle.cipher.specs.Box.{record_sbox};
-ghost use Rattle.cipher.specs.Rounds.{Closed, sharings, ZeroPastShares};
+ghost use Rattle.present.specs.Masked.{masked_round};
 
-use crate::linear_parts::{add_round_key, permutation, rotation, round_number};
-use crate::substitution::{sbox_layer, sbox_nibble};
-use steps::Counts;
+use crate::key_schedule::update_key;
+use crate::linear_parts::{BlockShares, KeyShares, add_round_key, linear_map};
+use crate::nibble_box::NibbleBox;
+use layers::Permutation;
+use steps::ShareCount;
+use steps::machine::Machine;
 
-// The sharings of a block and of a key between two rounds, with what the run has taken.
+// These bytes at the start of an array, and zeros past them.
+fn padded<const N: usize>(bytes: &[u8]) -> [u8; N]
+    requires { length bytes.now ≤ N }
+    ensures { result ≡ paste (replicate N 0) 0 bytes.now (length bytes.now) }
+{
+    let mut array = [0u8; N];
+    array[..bytes.len()].copy_from_slice(bytes);
+    array
+}
+
+// The shares of a block and of a key between two rounds; the bytes past them are zero.
 #[derive(Clone, Copy)]
 pub struct RoundState {
-    pub block: [u8; 72],
-    pub key: [u8; 90],
-    pub counts: Counts,
+    pub shares: ShareCount,
+    pub block: BlockShares,
+    pub key: KeyShares,
+    pub ghost some: { 0 < shares.count },
+    pub ghost zero_past: { ZeroPastShares shares.count key block },
 }
 
-// The key update of round r. Bytes past the shares in use are kept.
-pub fn update_key(
-    s: usize,
-    coefficients: &[u8],
-    r: u8,
-    random: &[u8],
-    watch: &[u32],
-    values: &mut [u8],
-    key: &mut [u8; 90],
-    n: Counts,
-) -> Counts
-    requires s_nonzero { (0 < s) × (s ≤ 9) × (r < 32) × ((layout 4 4).coefficients ≤ length coefficients.now) }
-    requires closed { Closed s (elements 4 random.now) (record_sbox s coefficients.now) }
-    requires ready { Ready (elements 4 random.now) watch.now
-        (masked_update (record_sbox s coefficients.now) size80 s r (sharing 10 s key.old)) n values.old }
-    ensures went { Went (elements 4 random.now) watch.now
-        (masked_update (record_sbox s coefficients.now) size80 s r (sharing 10 s key.old))
-        n values.old (sharing 10 s key.new) result values.new }
-    ensures kept_past { KeptPast 10 s key.old key.new }
-{
-    let next = rotation(s, watch, &mut *values, &mut *key, n.steps);
-    let n = n.with_steps(next);
-    let n = sbox_nibble(
-        10,
-        s,
-        19,
-        coefficients,
-        random,
-        watch,
-        &mut *values,
-        &mut *key,
-        n,
-    );
-    let next = round_number(s, r, watch, values, key, n.steps);
-    n.with_steps(next)
-}
+impl RoundState {
+    ghost use Rattle.cipher.specs.Rounds.{sbox_of, sharings, Prepared};
 
-// Round r. The state is zero past the shares, before it and after it.
-pub fn round(
-    s: usize,
-    coefficients: &[u8],
-    r: u8,
-    random: &[u8],
-    watch: &[u32],
-    values: &mut [u8],
-    t: RoundState,
-) -> RoundState
-    requires s_nonzero { (0 < s) × (s ≤ 9) × (r < 32) × ((layout 4 4).coefficients ≤ length coefficients.now) }
-    requires closed { Closed s (elements 4 random.now) (record_sbox s coefficients.now) }
-    requires ready { Ready (elements 4 random.now) watch.now
-        (masked_round (record_sbox s coefficients.now) size80 s r (sharings s t)) t.counts values.old }
-    requires zero_past_shares { ZeroPastShares s t }
-    ensures went { Went (elements 4 random.now) watch.now
-        (masked_round (record_sbox s coefficients.now) size80 s r (sharings s t))
-        t.counts values.old (sharings s result) result.counts values.new }
-    ensures zero_past_shares_2 { ZeroPastShares s result }
-{
-    let mut block = t.block;
-    let mut key = t.key;
-    let n = t.counts;
-    let next = add_round_key(s, &key, watch, &mut *values, &mut block, n.steps);
-    let n = n.with_steps(next);
-    let n = sbox_layer(s, coefficients, random, watch, &mut *values, &mut block, n);
-    let next = permutation(s, watch, &mut *values, &mut block, n.steps);
-    let n = n.with_steps(next);
-    let n = update_key(s, coefficients, r, random, watch, values, &mut key, n);
-    RoundState {
-        block,
-        key,
-        counts: n,
+    // The state before round 1.
+    pub fn load(shares: ShareCount, key: &[u8], block: &[u8]) -> RoundState
+        requires { (0 < shares.count) × (length key.now ≡ 10 * shares.count) × (length block.now ≡ 8 * shares.count) }
+        ensures shares { result.shares ≡ shares }
+        ensures key { sharing 10 shares.count result.key ≡ sharing 10 shares.count key.now }
+        ensures block { sharing 8 shares.count result.block ≡ sharing 8 shares.count block.now }
+    {
+        RoundState {
+            shares,
+            block: padded(block),
+            key: padded(key),
+        }
     }
-}
 
-// Rounds 1 to 31. The state is zero past the shares, before them and after them.
-pub fn rounds(
-    s: usize,
-    coefficients: &[u8],
-    random: &[u8],
-    watch: &[u32],
-    values: &mut [u8],
-    t: RoundState,
-) -> RoundState
-    requires s_nonzero { (0 < s) × (s ≤ 9) × ((layout 4 4).coefficients ≤ length coefficients.now) }
-    requires closed { Closed s (elements 4 random.now) (record_sbox s coefficients.now) }
-    requires ready { Ready (elements 4 random.now) watch.now
-        (for 1 32 (masked_round (record_sbox s coefficients.now) size80 s) (sharings s t)) t.counts values.old }
-    requires zero_past_shares { ZeroPastShares s t }
-    ensures went { Went (elements 4 random.now) watch.now
-        (for 1 32 (masked_round (record_sbox s coefficients.now) size80 s) (sharings s t))
-        t.counts values.old (sharings s result) result.counts values.new }
-    ensures zero_past_shares_2 { ZeroPastShares s result }
-{
-    let mut t = t;
-    let mut r = 1u8;
-    while r < 32 {
-        t = round(s, coefficients, r, random, watch, &mut *values, t);
-        r += 1;
+    // Round r.
+    pub fn round<M: Machine>(&mut self, machine: &mut M, nibble_box: &NibbleBox<'_>, r: u8)
+        requires round { r < 32 }
+        requires prepared { Prepared (masked_round (sbox_of nibble_box.now self.old.shares.count) size80 self.old.shares.count r (sharings self.old))
+            (M.state machine.old) }
+        ensures went { Went (masked_round (sbox_of nibble_box.now self.old.shares.count) size80 self.old.shares.count r (sharings self.old))
+            (M.state machine.old) (sharings self.new) (M.state machine.new) }
+        ensures same_shares { self.new.shares ≡ self.old.shares }
+    {
+        let s = self.shares;
+        add_round_key(machine, s, &self.key, &mut self.block);
+        nibble_box.substitute_block(machine, s, &mut self.block);
+        linear_map::<Permutation, M>(machine, s, &mut self.block);
+        update_key(machine, nibble_box, s, r, &mut self.key);
     }
-    t
+
+    // Rounds 1 to 31.
+    pub fn rounds<M: Machine>(&mut self, machine: &mut M, nibble_box: &NibbleBox<'_>)
+        requires { Prepared (for 1 32 (masked_round (sbox_of nibble_box.now self.old.shares.count) size80 self.old.shares.count) (sharings self.old))
+            (M.state machine.old) }
+        ensures went { Went (for 1 32 (masked_round (sbox_of nibble_box.now self.old.shares.count) size80 self.old.shares.count) (sharings self.old))
+            (M.state machine.old) (sharings self.new) (M.state machine.new) }
+        ensures same_shares { self.new.shares ≡ self.old.shares }
+    {
+        for r in 1..32 {
+            self.round(machine, nibble_box, r);
+        }
+    }
 }

@@ -1,154 +1,44 @@
-// The rounds of a masked opening. The coefficients are those of the record of the inverse table, but in `run_key`.
-ghost use Rattle.std.specs.Prelude.{◌<◌, ◌≤◌, length};
-ghost use Rattle.decomposition.specs.Layout.{layout};
-ghost use Rattle.steps.specs.Program.{for};
-ghost use Rattle.steps.specs.Tape.{elements};
-ghost use Rattle.steps.specs.Machine.{Ready, Went};
+// The rounds of a masked opening.
+ghost use Rattle.std.specs.Prelude.{◌≡◌, ◌<◌};
+ghost use Rattle.steps.specs.Machine.{Went};
 ghost use Rattle.present.specs.Present.{size80};
-ghost use Rattle.present.specs.Masked.{masked_update};
-ghost use Rattle.present.specs.Opening.{for_back, masked_undo_update, masked_undo_round};
-ghost use Rattle.steps.specs.ShareBytes.{sharing, KeptPast};
-ghost use Rattle.cipher.specs.Box.{record_sbox};
-ghost use Rattle.cipher.specs.Rounds.{Closed, sharings, ZeroPastShares};
+ghost use Rattle.present.specs.Opening.{for_back, masked_undo_round};
+ghost use Rattle.cipher.specs.Rounds.{sbox_of, sharings, Prepared};
 
-use crate::linear_parts::{add_round_key, round_number, unpermutation, unrotation};
-use crate::rounds::{RoundState, update_key};
-use crate::substitution::{sbox_layer, sbox_nibble};
-use steps::Counts;
+use crate::key_schedule::undo_update;
+use crate::linear_parts::{add_round_key, linear_map};
+use crate::nibble_box::NibbleBox;
+use crate::rounds::RoundState;
+use layers::InversePermutation;
+use steps::machine::Machine;
 
-// The key updates of rounds 1 to 31, by the record of the table. Bytes past the shares in use are kept.
-pub fn run_key(
-    s: usize,
-    coefficients: &[u8],
-    random: &[u8],
-    watch: &[u32],
-    values: &mut [u8],
-    key: &mut [u8; 90],
-    n: Counts,
-) -> Counts
-    requires s_nonzero { (0 < s) × (s ≤ 9) × ((layout 4 4).coefficients ≤ length coefficients.now) }
-    requires closed { Closed s (elements 4 random.now) (record_sbox s coefficients.now) }
-    requires ready { Ready (elements 4 random.now) watch.now
-        (for 1 32 (masked_update (record_sbox s coefficients.now) size80 s) (sharing 10 s key.old)) n values.old }
-    ensures went { Went (elements 4 random.now) watch.now
-        (for 1 32 (masked_update (record_sbox s coefficients.now) size80 s) (sharing 10 s key.old))
-        n values.old (sharing 10 s key.new) result values.new }
-    ensures kept_past { KeptPast 10 s key.old key.new }
-{
-    let mut n = n;
-    let mut r = 1u8;
-    while r < 32 {
-        n = update_key(
-            s,
-            coefficients,
-            r,
-            random,
-            watch,
-            &mut *values,
-            &mut *key,
-            n,
-        );
-        r += 1;
+impl RoundState {
+    // Round r undone, by the inverse S-box.
+    pub fn undo_round<M: Machine>(&mut self, machine: &mut M, inverse: &NibbleBox<'_>, r: u8)
+        requires round { r < 32 }
+        requires prepared { Prepared (masked_undo_round (sbox_of inverse.now self.old.shares.count) size80 self.old.shares.count r (sharings self.old))
+            (M.state machine.old) }
+        ensures went { Went (masked_undo_round (sbox_of inverse.now self.old.shares.count) size80 self.old.shares.count r (sharings self.old))
+            (M.state machine.old) (sharings self.new) (M.state machine.new) }
+        ensures same_shares { self.new.shares ≡ self.old.shares }
+    {
+        let s = self.shares;
+        linear_map::<InversePermutation, M>(machine, s, &mut self.block);
+        inverse.substitute_block(machine, s, &mut self.block);
+        undo_update(machine, inverse, s, r, &mut self.key);
+        add_round_key(machine, s, &self.key, &mut self.block);
     }
-    n
-}
 
-// The key update of round r undone, from its last part to its first. Bytes past the shares in use are kept.
-pub fn undo_update(
-    s: usize,
-    coefficients: &[u8],
-    r: u8,
-    random: &[u8],
-    watch: &[u32],
-    values: &mut [u8],
-    key: &mut [u8; 90],
-    n: Counts,
-) -> Counts
-    requires s_nonzero { (0 < s) × (s ≤ 9) × (r < 32) × ((layout 4 4).coefficients ≤ length coefficients.now) }
-    requires closed { Closed s (elements 4 random.now) (record_sbox s coefficients.now) }
-    requires ready { Ready (elements 4 random.now) watch.now
-        (masked_undo_update (record_sbox s coefficients.now) size80 s r (sharing 10 s key.old)) n values.old }
-    ensures went { Went (elements 4 random.now) watch.now
-        (masked_undo_update (record_sbox s coefficients.now) size80 s r (sharing 10 s key.old))
-        n values.old (sharing 10 s key.new) result values.new }
-    ensures kept_past { KeptPast 10 s key.old key.new }
-{
-    let next = round_number(s, r, watch, &mut *values, &mut *key, n.steps);
-    let n = n.with_steps(next);
-    let n = sbox_nibble(
-        10,
-        s,
-        19,
-        coefficients,
-        random,
-        watch,
-        &mut *values,
-        &mut *key,
-        n,
-    );
-    let next = unrotation(s, watch, values, key, n.steps);
-    n.with_steps(next)
-}
-
-// Round r undone. The state is zero past the shares, before it and after it.
-pub fn undo_round(
-    s: usize,
-    coefficients: &[u8],
-    r: u8,
-    random: &[u8],
-    watch: &[u32],
-    values: &mut [u8],
-    t: RoundState,
-) -> RoundState
-    requires s_nonzero { (0 < s) × (s ≤ 9) × (r < 32) × ((layout 4 4).coefficients ≤ length coefficients.now) }
-    requires closed { Closed s (elements 4 random.now) (record_sbox s coefficients.now) }
-    requires ready { Ready (elements 4 random.now) watch.now
-        (masked_undo_round (record_sbox s coefficients.now) size80 s r (sharings s t)) t.counts values.old }
-    requires zero_past_shares { ZeroPastShares s t }
-    ensures went { Went (elements 4 random.now) watch.now
-        (masked_undo_round (record_sbox s coefficients.now) size80 s r (sharings s t))
-        t.counts values.old (sharings s result) result.counts values.new }
-    ensures zero_past_shares_2 { ZeroPastShares s result }
-{
-    let mut block = t.block;
-    let mut key = t.key;
-    let n = t.counts;
-    let next = unpermutation(s, watch, &mut *values, &mut block, n.steps);
-    let n = n.with_steps(next);
-    let n = sbox_layer(s, coefficients, random, watch, &mut *values, &mut block, n);
-    let n = undo_update(s, coefficients, r, random, watch, &mut *values, &mut key, n);
-    let next = add_round_key(s, &key, watch, values, &mut block, n.steps);
-    RoundState {
-        block,
-        key,
-        counts: n.with_steps(next),
+    // Rounds 31 to 1 undone.
+    pub fn undo_rounds<M: Machine>(&mut self, machine: &mut M, inverse: &NibbleBox<'_>)
+        requires { Prepared (for_back 1 32 (masked_undo_round (sbox_of inverse.now self.old.shares.count) size80 self.old.shares.count) (sharings self.old))
+            (M.state machine.old) }
+        ensures went { Went (for_back 1 32 (masked_undo_round (sbox_of inverse.now self.old.shares.count) size80 self.old.shares.count) (sharings self.old))
+            (M.state machine.old) (sharings self.new) (M.state machine.new) }
+        ensures same_shares { self.new.shares ≡ self.old.shares }
+    {
+        for r in (1..32).rev() {
+            self.undo_round(machine, inverse, r);
+        }
     }
-}
-
-// Rounds 31 to 1 undone. The state is zero past the shares, before them and after them.
-pub fn undo_rounds(
-    s: usize,
-    coefficients: &[u8],
-    random: &[u8],
-    watch: &[u32],
-    values: &mut [u8],
-    t: RoundState,
-) -> RoundState
-    requires s_nonzero { (0 < s) × (s ≤ 9) × ((layout 4 4).coefficients ≤ length coefficients.now) }
-    requires closed { Closed s (elements 4 random.now) (record_sbox s coefficients.now) }
-    requires ready { Ready (elements 4 random.now) watch.now
-        (for_back 1 32 (masked_undo_round (record_sbox s coefficients.now) size80 s) (sharings s t)) t.counts values.old }
-    requires zero_past_shares { ZeroPastShares s t }
-    ensures went { Went (elements 4 random.now) watch.now
-        (for_back 1 32 (masked_undo_round (record_sbox s coefficients.now) size80 s) (sharings s t))
-        t.counts values.old (sharings s result) result.counts values.new }
-    ensures zero_past_shares_2 { ZeroPastShares s result }
-{
-    let mut t = t;
-    let mut j = 1u8;
-    while j < 32 {
-        t = undo_round(s, coefficients, 32 - j, random, watch, &mut *values, t);
-        j += 1;
-    }
-    t
 }

@@ -16,7 +16,7 @@ use Rattle.decomposition.specs.Layout.{Known, Pair, Sizes, layout}
 use Rattle.decomposition.specs.Record.{Accepted, SameRecord, coefficients_of, layout_of, marked, old_record, outputs_of, read_outcome, record_of, version_of, width_of}
 use Rattle.decomposition.proofs.Differences.{no_difference}
 use Rattle.decomposition.proofs.ReadOutcome.{accepted_read}
-use Rattle.decomposition.proofs.Record.{record_entries, record_length, record_marked, record_version, record_width, record_outputs, record_form_lem}
+use Rattle.decomposition.proofs.RecordParts.{record_entries, record_length, record_marked, record_version, record_width, record_outputs, record_form_lem}
 use Rattle.decomposition.proofs.Sizes.{layout_outputs, layout_width, same_pair, sizes}
 
 module _ (n m : ℕ) (w : Pair n m) (basis p : List ℕ) (eb : length basis ≡ (layout n m).basis) (ep : length p ≡ (layout n m).unknowns)

@@ -1,87 +1,43 @@
--- The form of a record from its coefficients, and the first input at which it differs from a table.
+-- The first input at which a form differs from a table.
 use mathlib.Core.List.{List, ◌∷◌, []}
-use mathlib.Core.Path.{◌≡◌, refl, sym, ap, ap₂, ◌∙◌, fun_ext}
-use Prim.Native.Nat.{ℕ, suc, ◌+◌, ◌-◌, ◌*◌, ◌<◌, ◌≤◌, zero}
+use mathlib.Core.Path.{◌≡◌, refl, sym, ap, ◌∙◌}
+use Prim.Native.Nat.{ℕ, suc, ◌<◌, ◌≤◌, zero}
 use native.Mathlib.Decide.{ℕ_discrete}
-use native.Mathlib.Nat.{add_assoc, add-suc, add-zero, suc-add, zero-add}
 use native.Mathlib.Omega.{arith}
-use lib.ListN.{get_or, drop, length}
-use lib.Seq.{get_or-take, get_or-drop, drop-cons, drop-length}
-use borrow.Author.Tests.{ne_eqb, eq-eqb}
-use Rattle.xor.specs.Sum.{sum_of}
-use Rattle.xor.proofs.Sum.{sum_of_same}
-use Rattle.field.specs.Mul.{mul}
-use Rattle.linear.specs.Buffer.{from}
-use Rattle.linear.specs.Row.{Agree, dot}
-use Rattle.linear.specs.Scalars.{scalars}
-use Rattle.linear.proofs.Row.{dot_agree}
-use Rattle.decomposition.specs.Check.{first_difference, products_in}
-use Rattle.decomposition.specs.Form.{monomial, value_of}
-use Rattle.decomposition.specs.Layout.{Sizes}
-use Rattle.decomposition.specs.Record.{basis_of, solution_of}
-use Rattle.decomposition.specs.declared.layouts.Layout.{Layout}
-use Rattle.decomposition.proofs.Sizes.{basis_room}
-use Rattle.decomposition.proofs.Value.{value_dot}
+use lib.Dec.{leb}
+use lib.ListN.{get_or, length}
+use borrow.Author.Tests.{ne_eqb, eq-eqb, le-leb, lt-leb}
+use Rattle.std.specs.Prelude.{Some, None}
+use Rattle.refusal.specs.Large.{found}
+use Rattle.refusal.proofs.Large.{found_one, found_none, found_some, found_nothing}
+use Rattle.refusal.specs.Outcome.{Outcome, refused, test}
+use Rattle.decomposition.specs.Check.{first_difference}
 
--- ---- the form of a record
-
--- the products p1·q1, .. of a record's coefficients, by the places of its polynomials
-abbrev pub product_at : ℕ → ℕ → ℕ → List ℕ → List ℕ → ℕ → ℕ
-product_at n e start cs powers i =
-    mul n (dot (scalars n) e (from cs (start + i * e)) (from powers 0)) (dot (scalars n) e (from cs (i * e)) (from powers 0))
-
-module _ {L : Layout} (z : Sizes L) (cs powers : List ℕ) (x : ℕ) (a : Agree L.exponents (from powers 0) (monomial L.width x)) where
-  pub solution_value : (i : ℕ) → dot (scalars L.width) L.exponents (from cs (L.basis + i * L.exponents)) (from powers 0)
-      ≡ value_of L (solution_of L cs) i x
-  solution_value i =
-      dot_agree (scalars L.width) L.exponents
-      (record {
-        at = λ j h.
-            ap (λ (k : ℕ). get_or cs k 0) (add_assoc L.basis (i * L.exponents) j) ∙ sym (get_or-drop L.basis cs (i * L.exponents + j) 0);
-      })
-      a
-      ∙ sym (value_dot z (solution_of L cs) i x)
-
-  basis_value : (i : ℕ) → suc i < L.terms
-      → dot (scalars L.width) L.exponents (from cs (i * L.exponents)) (from powers 0) ≡ value_of L (basis_of L cs) i x
-  basis_value i l =
-      dot_agree (scalars L.width) L.exponents
-      (record {
-        at = λ j h. sym (get_or-take L.basis cs (i * L.exponents + j) 0 (omega (arith, basis_room z l)));
-      })
-      a
-      ∙ sym (value_dot z (basis_of L cs) i x)
-
-  pub products_record : sum_of (L.terms - 1) (product_at L.width L.exponents L.basis cs powers) ≡ products_in L cs x (L.terms - 1)
-  products_record = sum_of_same (L.terms - 1) (λ i l. ap₂ (mul L.width) (solution_value i) (basis_value i (omega arith)))
-
--- ---- the first difference
-
--- the inputs from x on
-pub difference_here : (f : ℕ → ℕ) (table : List ℕ) (x : ℕ) → x < length table → (f x ≡ get_or table x 0 → ⊥)
-    → first_difference (λ k. f (x + k)) (drop x table) ≡ 0
+-- it is x, where f and the table agree before
+pub difference_at : (f : ℕ → ℕ) (table : List ℕ) (x : ℕ) → x < length table → ((k : ℕ) → k < x → f k ≡ get_or table k 0)
+    → (f x ≡ get_or table x 0 → ⊥) → first_difference f table ≡ x
 unfolding first_difference
-difference_here f table x h n = rw (drop-cons table x 0 h, ne_eqb (f (x + 0)) (get_or table x 0) (λ e. n (ap f (sym (add-zero x)) ∙ e))) refl
-
-pub difference_past : (f : ℕ → ℕ) (table : List ℕ) (x : ℕ) → x < length table → f x ≡ get_or table x 0
-    → first_difference (λ k. f (x + k)) (drop x table) ≡ suc (first_difference (λ k. f (suc x + k)) (drop (suc x) table))
-unfolding first_difference
-difference_past f table x h e =
-    rw (drop-cons table x 0 h, eq-eqb (f (x + 0)) (get_or table x 0) (ap f (add-zero x) ∙ e))
-    (ap (λ (g : ℕ → ℕ). suc (first_difference g (drop (suc x) table))) (fun_ext (λ k. ap f (add-suc x k ∙ sym (suc-add x k)))))
-
-pub difference_end : (f : ℕ → ℕ) (table : List ℕ) → first_difference f (drop (length table) table) ≡ 0
-unfolding first_difference
-difference_end f table = rw (drop-length table) refl
-
-pub difference_start : (f : ℕ → ℕ) (table : List ℕ) → first_difference (λ k. f (0 + k)) table ≡ first_difference f table
-difference_start f table = ap (λ (g : ℕ → ℕ). first_difference g table) (fun_ext (λ k. ap f (zero-add k)))
+difference_at f [] x h before n = absurd (omega arith)
+difference_at f (y ∷ l) zero h before n = rw (ne_eqb (f 0) y n) refl
+difference_at f (y ∷ l) (suc x) h before n =
+    rw (eq-eqb (f 0) y (before 0 (omega arith))) (ap suc (difference_at (λ k. f (suc k)) l x (omega arith) (λ k g. before (suc k) (omega arith)) n))
 
 -- where the form computes the table there is none
 pub no_difference : (f : ℕ → ℕ) (table : List ℕ) → ((x : ℕ) → x < length table → f x ≡ get_or table x 0) → first_difference f table ≡ length table
 unfolding first_difference
 no_difference f [] h = refl
 no_difference f (y ∷ l) h = rw (eq-eqb (f 0) y (h 0 (omega arith))) (ap suc (no_difference (λ x. f (suc x)) l (λ x g. h (suc x) (omega arith))))
+
+-- so a search of it answers
+pub found_difference : (f : ℕ → ℕ) (table : List ℕ) (x : ℕ) → x < length table → ((k : ℕ) → k < x → f k ≡ get_or table k 0)
+    → (f x ≡ get_or table x 0 → ⊥) → Some x ≡ found (first_difference f table) (length table)
+found_difference f table x h before n =
+    let e = difference_at f table x h before n in
+    ap Some (sym e) ∙ sym (found_one (rw e h))
+
+pub none_different : (f : ℕ → ℕ) (table : List ℕ) → ((k : ℕ) → k < length table → f k ≡ get_or table k 0)
+    → None ≡ found (first_difference f table) (length table)
+none_different f table h = sym (found_none (omega (arith, no_difference f table h)))
 
 pub difference_none : (f : ℕ → ℕ) (table : List ℕ) → length table ≤ first_difference f table → (x : ℕ) → x < length table → f x ≡ get_or table x 0
 unfolding first_difference
@@ -96,3 +52,16 @@ difference_none f (y ∷ l) h x g = elim (ℕ_discrete (f 0) y) [
     at : (x : ℕ) → x < length (y ∷ l) → f 0 ≡ y → ((k : ℕ) → k < length l → f (suc k) ≡ get_or l k 0) → f x ≡ get_or (y ∷ l) x 0
     at zero g e h = e
     at (suc k) g e h = h k (omega arith)
+
+-- ---- the test of it
+
+module _ (f : ℕ → ℕ) (table : List ℕ) (next : Outcome) where
+  pub differs : {at : ℕ} → found (first_difference f table) (length table) ≡ Some at
+      → test (leb (length table) (first_difference f table)) 6 (first_difference f table) next ≡ refused 6 at
+  differs h =
+      let s = found_some h in
+      rw (lt-leb (length table) (first_difference f table) s.0) (ap (refused 6) s.1)
+
+  pub agrees : found (first_difference f table) (length table) ≡ None
+      → test (leb (length table) (first_difference f table)) 6 (first_difference f table) next ≡ next
+  agrees h = rw (le-leb (length table) (first_difference f table) (found_nothing h)) refl

@@ -190,6 +190,11 @@ module _ (table work out : List ℕ) where
   unfolding house_outcome house_basis first_large layout sized
   house_tests = refl
 
+  -- what they come to at a layout that is this one
+  pub house_told : (L : Layout) {T : Outcome} → L ≡ layout 4 4 → fit_tests L table house_basis (length work) (length out) ≡ T → house_outcome table work out ≡ T
+  house_told L e h =
+      sym house_tests ∙ sym (ap (λ (M : Layout). fit_tests M table house_basis (length work) (length out)) e) ∙ h
+
   -- where they are passed, the table is one of 16 entries below 16, and nothing is handed back
   pub house_passed : {values : List ℕ} → house_outcome table work out ≡ done values → (length table ≡ 16) × Small 4 table × ([] ≡ values)
   unfolding house_outcome layout sized

@@ -1,9 +1,10 @@
+pub mod Whole
 pub mod Sizes
 pub mod Value
 pub mod Columns
 pub mod Decomposition
 pub mod Tests
-pub mod Record
+pub mod RecordParts
 pub mod Work
 pub mod Blocks
 pub mod Differences

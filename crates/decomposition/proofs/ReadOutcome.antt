@@ -1,26 +1,94 @@
 -- What holds of a record that Read accepts, and of one that Check accepts.
 use mathlib.Core.List.{List, [], ◌∷◌}
-use mathlib.Core.Path.{◌≡◌, refl, sym, ap, subst, ◌∙◌}
-use Prim.Native.Nat.{ℕ, ◌+◌, ◌^◌, ◌<◌, ◌≤◌}
+use mathlib.Core.Path.{◌≡◌, refl, sym, ap, ap₂, subst, ◌∙◌}
+use mathlib.Core.Bool.{Bool, true, cond}
+use Prim.Native.Nat.{ℕ, ◌+◌, ◌-◌, ◌^◌, ◌<◌, ◌≤◌}
+use native.Mathlib.Decide.{ℕ_discrete}
 use native.Mathlib.Omega.{arith}
 use lib.Dec.{leb, eqb}
-use lib.ListN.{length, length-drop}
+use lib.ListN.{length, length-drop, drop, take, get_or}
 use lib.Pow.{pow_pos}
-use lib.Seq.{get_or-drop}
-use borrow.Author.Tests.{eqb-true, leb-true, eq-eqb, le-leb}
+use lib.Seq.{get_or-drop, drop-drop}
+use borrow.Author.Tests.{eqb-true, leb-true, eq-eqb, ne_eqb, le-leb, lt-leb}
 use Rattle.xor.proofs.Sum.{small_take, small_drop}
-use Rattle.refusal.specs.Large.{first_large}
-use Rattle.refusal.specs.Outcome.{done}
+use Rattle.refusal.specs.Large.{first_large, test_below}
+use Rattle.refusal.specs.Outcome.{done, refused, test}
 use Rattle.refusal.proofs.Large.{all_small, none_large}
 use Rattle.refusal.proofs.Outcome.{passed, done_values}
 use Rattle.decomposition.specs.Check.{check_at, first_difference, record_form, record_output}
 use Rattle.decomposition.specs.Form.{Computes}
-use Rattle.decomposition.specs.Layout.{known, paired, head, layout, record_size}
-use Rattle.decomposition.specs.Record.{Accepted, marked, version_of, width_of, outputs_of, coefficients_of, read_outcome, basis_of, solution_of}
+use Rattle.decomposition.specs.Layout.{known, Known, paired, head, layout, record_size}
+use Rattle.decomposition.specs.Record.{Accepted, marked, version_of, width_of, outputs_of, coefficients_of, layout_of, pair_tests, read_outcome, basis_of, solution_of}
 use Rattle.decomposition.proofs.Columns.{form_small}
 use Rattle.decomposition.proofs.Differences.{difference_none}
 use Rattle.decomposition.proofs.Sizes.{layout_width, sizes}
-use Rattle.decomposition.proofs.Tests.{head_few}
+use Rattle.decomposition.proofs.Tests.{head_few, whole_part}
+
+-- ---- the tests, by the parts of a record
+
+-- as many follow a head as the length leaves
+eqb_drop : (r : List ℕ) (h size : ℕ) → h ≤ length r → eqb (length (drop h r)) size ≡ eqb (length r) (h + size)
+eqb_drop r h size l = elim (ℕ_discrete (length r) (h + size)) [
+  | yes e ↦ rw (eq-eqb (length r) (h + size) e) (eq-eqb (length (drop h r)) size (omega (arith, e, length-drop h r)))
+  | no n ↦ rw (ne_eqb (length r) (h + size) n) (ne_eqb (length (drop h r)) size (omega (arith, n, length-drop h r)))
+]
+
+-- the two versions: what follows the first six bytes, and what the record says there
+abbrev pub rest_of : List ℕ → List ℕ
+rest_of r = take (length r - 6) (drop 6 r)
+
+module _ (r : List ℕ) where
+  pub outputs_1 : (version_of r ≡ 2 → ⊥) → outputs_of r ≡ width_of r
+  unfolding outputs_of
+  outputs_1 n = rw (ne_eqb (version_of r) 2 n) refl
+
+  pub part_1 : (version_of r ≡ 2 → ⊥) → coefficients_of r ≡ rest_of r
+  part_1 n = ap (λ (b : Bool). drop (cond b 7 6) r) (ne_eqb (version_of r) 2 n) ∙ sym (whole_part 6 r)
+
+  pub outputs_2 : version_of r ≡ 2 → outputs_of r ≡ get_or (rest_of r) 0 0
+  unfolding outputs_of
+  outputs_2 e = rw (eq-eqb (version_of r) 2 e) (sym (get_or-drop 6 r 0 0) ∙ ap (λ (l : List ℕ). get_or l 0 0) (sym (whole_part 6 r)))
+
+  pub part_2 : version_of r ≡ 2 → coefficients_of r ≡ take (length (rest_of r) - 1) (drop 1 (rest_of r))
+  part_2 e =
+      ap (λ (b : Bool). drop (cond b 7 6) r) (eq-eqb (version_of r) 2 e)
+      ∙ sym (whole_part 1 (rest_of r) ∙ ap (drop 1) (whole_part 6 r) ∙ drop-drop 1 6 r)
+
+  rest_length : length (rest_of r) ≡ length r - 6
+  rest_length = ap length (whole_part 6 r) ∙ length-drop 6 r
+
+-- past the tests of length, mark and width they go on by the version
+module _ (r : List ℕ) (long : 6 ≤ length r) (right : marked r ≡ true) (known : Known (width_of r)) where
+  parts : head (version_of r) ≤ length r → pair_tests (width_of r) (outputs_of r) (head (version_of r)) (coefficients_of r) ≡ read_outcome r
+  unfolding read_outcome
+  parts w =
+      rw (le-leb 6 (length r) long, right, known, le-leb (head (version_of r)) (length r) w)
+      (ap (λ (b : Bool). test (paired (width_of r) (outputs_of r)) 9 0 (test b 2 0 (test_below (layout_of r).inputs (head (version_of r)) (coefficients_of r)
+      (done ((layout_of r).width ∷ [])))))
+      (eqb_drop r (head (version_of r)) (layout_of r).coefficients w))
+
+  pub tests_1 : (version_of r ≡ 2 → ⊥) → pair_tests (width_of r) (width_of r) 6 (rest_of r) ≡ read_outcome r
+  tests_1 n =
+      let h : head (version_of r) ≡ 6 = rw (ne_eqb (version_of r) 2 n) refl in
+      ap₂ (λ (m h : ℕ). pair_tests (width_of r) m h (rest_of r)) (sym (outputs_1 r n)) (sym h)
+      ∙ ap (pair_tests (width_of r) (outputs_of r) (head (version_of r))) (sym (part_1 r n))
+      ∙ parts (omega (arith, h))
+
+  pub tests_2 : version_of r ≡ 2 → 1 ≤ length (rest_of r)
+      → pair_tests (width_of r) (get_or (rest_of r) 0 0) 7 (take (length (rest_of r) - 1) (drop 1 (rest_of r))) ≡ read_outcome r
+  tests_2 e l =
+      let h : head (version_of r) ≡ 7 = rw (eq-eqb (version_of r) 2 e) refl in
+      ap₂ (λ (m h : ℕ). pair_tests (width_of r) m h (take (length (rest_of r) - 1) (drop 1 (rest_of r)))) (sym (outputs_2 r e)) (sym h)
+      ∙ ap (pair_tests (width_of r) (outputs_of r) (head (version_of r))) (sym (part_2 r e))
+      ∙ parts (omega (arith, h, l, rest_length r))
+
+  pub short_2 : version_of r ≡ 2 → length (rest_of r) < 1 → refused 2 0 ≡ read_outcome r
+  unfolding read_outcome
+  short_2 e l =
+      let h : head (version_of r) ≡ 7 = rw (eq-eqb (version_of r) 2 e) refl in
+      rw (le-leb 6 (length r) long, right, known, lt-leb (head (version_of r)) (length r) (omega (arith, h, l, rest_length r))) refl
+
+-- ---- what holds of an accepted record
 
 -- it is of the width that it names, and this is what Read hands back
 pub read_values : (r : List ℕ) {values : List ℕ} → read_outcome r ≡ done values → Accepted (width_of r) r × (width_of r ∷ [] ≡ values)

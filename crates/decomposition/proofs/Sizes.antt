@@ -64,6 +64,10 @@ outputs_6 = each_pair (λ n m. (m ≡ 6 → ⊥) → m ≡ 4) (λ e. refl) (λ e
 pub same_pair : (n : ℕ) → Known n → Pair n n
 same_pair n k = record { width = k; outputs = rw (eq-eqb n n refl) refl }
 
+-- and four bits pair with six
+pub pair_6_4 : Pair 6 4
+pair_6_4 = record { width = refl; outputs = refl }
+
 -- ---- the layouts
 
 -- the numbers of the pairs are small
@@ -115,6 +119,19 @@ sizes n m k =
       few_terms = f.4;
     }
 
+-- their numbers
+pub layout_4_4 : layout 4 4 ≡ record { width = 4; outputs = 4; inputs = 16; entries = 16; exponents = 9; terms = 2; unknowns = 18; basis = 9; coefficients = 27; stride = 10; work = 304 }
+unfolding layout sized terms_of
+layout_4_4 = rw length_exponents_4 refl
+
+pub layout_6_6 : layout 6 6 ≡ record { width = 6; outputs = 6; inputs = 64; entries = 64; exponents = 19; terms = 4; unknowns = 76; basis = 57; coefficients = 133; stride = 58; work = 4928 }
+unfolding layout sized terms_of
+layout_6_6 = rw length_exponents_6 refl
+
+pub layout_6_4 : layout 6 4 ≡ record { width = 6; outputs = 4; inputs = 64; entries = 16; exponents = 19; terms = 3; unknowns = 57; basis = 38; coefficients = 95; stride = 43; work = 11008 }
+unfolding layout sized terms_of
+layout_6_4 = rw length_exponents_6 refl
+
 -- the numbers that the papers name: the lengths of a record in each version, and of the work of a fit
 pub sizes_4_4 : let L = layout 4 4 in (record_size 1 L ≡ 33) × (record_size 2 L ≡ 34) × (L.work ≡ 304)
 unfolding layout sized terms_of
@@ -143,12 +160,6 @@ layout_outputs n m = refl
 module _ {L : Layout} (z : Sizes L) where
   pub unknowns_few : L.unknowns ≤ 217
   unknowns_few = rw z.unknowns (mul-le-mul {n₂ = 7} {m₂ = 31} (omega (arith, z.few_terms)) (omega (arith, z.few_exponents)))
-
-  pub coefficients_few : L.coefficients ≤ 434
-  coefficients_few = omega (arith, z.coefficients, z.basis, unknowns_few)
-
-  pub work_few : L.inputs * (L.unknowns + 1) ≤ 55808
-  work_few = mul-le-mul {n₂ = 256} {m₂ = 218} (omega (arith, z.byte)) (omega (arith, unknowns_few))
 
   pub rows_few : L.inputs * L.outputs ≤ 2048
   rows_few =

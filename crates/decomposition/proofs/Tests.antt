@@ -1,6 +1,6 @@
 -- The tests that the operations make, passed and failed.
 use mathlib.Core.Bool.{Bool, true, false, cond, and-eq-true_iff}
-use mathlib.Core.List.{List}
+use mathlib.Core.List.{List, []}
 use mathlib.Core.Path.{◌≡◌, sym, ap, ◌∙◌}
 use Prim.Native.Nat.{ℕ, ◌-◌, ◌≤◌}
 use native.Mathlib.Omega.{arith}
@@ -8,8 +8,10 @@ use lib.ListN.{length, take, drop, length-drop}
 use lib.Seq.{take-length}
 use lib.Dec.{eqb}
 use borrow.Author.Tests.{eqb-true}
+use Rattle.refusal.specs.Outcome.{Outcome, done, refused, test}
+use Rattle.refusal.proofs.Outcome.{passed}
 use Rattle.decomposition.specs.Fit.{fit_lengths}
-use Rattle.decomposition.specs.Layout.{head, record_size}
+use Rattle.decomposition.specs.Layout.{Pair, head, known, paired, record_size}
 use Rattle.decomposition.specs.declared.layouts.Layout.{Layout}
 
 -- all from place k on
@@ -33,3 +35,19 @@ fit_lengths_lem L table basis work out e =
     let b = (and-eq-true_iff (eqb basis L.basis) _).0 a.1 in
     let c = (and-eq-true_iff (eqb work L.work) _).0 b.1 in
     (eqb-true _ _ a.0, eqb-true _ _ b.0, eqb-true _ _ c.0, eqb-true _ _ c.1)
+
+-- the tests of width and output bits: where one refuses, that is the outcome, whatever would come next
+pub pair_stops : (n m : ℕ) (next : Outcome) {number place : ℕ} → test (known n) 1 0 (test (paired n m) 9 0 (done [])) ≡ refused number place
+    → test (known n) 1 0 (test (paired n m) 9 0 next) ≡ refused number place
+pair_stops n m next {number} {place} = go (known n) (paired n m)
+  where
+    go : (b b' : Bool) → test b 1 0 (test b' 9 0 (done [])) ≡ refused number place → test b 1 0 (test b' 9 0 next) ≡ refused number place
+    go true true h = let z : ◌≡◌ {A = ℕ} 0 1 = cc in absurd (omega arith)
+    go true false h = h
+    go false b' h = h
+
+-- and where both are passed, the two are a pair
+pub pair_passes : (n m : ℕ) {values : List ℕ} → test (known n) 1 0 (test (paired n m) 9 0 (done [])) ≡ done values → Pair n m
+pair_passes n m h =
+    let a = passed (known n) 1 0 _ h in
+    record { width = a.0; outputs = (passed (paired n m) 9 0 _ a.1).0 }

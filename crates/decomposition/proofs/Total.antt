@@ -26,14 +26,15 @@ use Rattle.linear.proofs.Row.{plus_small, dot_plus}
 use Rattle.linear.proofs.System.{last_free, sum_zero}
 use Rattle.decomposition.specs.Check.{first_difference}
 use Rattle.decomposition.specs.Equations.{bit_system, system}
-use Rattle.decomposition.specs.Fit.{FitCall, FitEnd, all_tests, FitReady, fit_outcome, fit_work, fit_record, fit_end, Found, AfterTests, IsFit}
+use Rattle.decomposition.specs.Fit.{FitCall, FitEnd, all_tests, fit_tests, FitReady, fit_outcome, fit_work, fit_record, fit_end, Found, AfterTests, IsFit}
 use Rattle.decomposition.specs.Form.{Computes, Decomposition, NoDecomposition, form}
-use Rattle.decomposition.specs.Layout.{Sizes, layout}
+use Rattle.decomposition.specs.Layout.{Pair, Sizes, layout}
 use Rattle.decomposition.specs.Record.{record_of}
 use Rattle.decomposition.specs.Solution.{digits, first_below, meets, candidates, candidate, solution_number, solvable, solution}
 use Rattle.decomposition.specs.declared.layouts.Layout.{Layout}
 use Rattle.decomposition.proofs.Decomposition.{computes_solves, decomposition_canonical, decomposition_or_none}
 use Rattle.decomposition.proofs.Differences.{difference_none, no_difference}
+use Rattle.decomposition.proofs.Ready.{fit_at_pair, passed_at, refused_at}
 use Rattle.decomposition.proofs.Settled.{fit_settled, tests_passed}
 use Rattle.decomposition.proofs.Sizes.{sizes}
 
@@ -350,3 +351,15 @@ fit_total n m c = go (all_tests n m c) refl
 -- an end with `IsFit` is the one defined
 pub fit_end_lem : (n m : ℕ) (c : FitCall) (e : FitEnd) → IsFit n m c e → e ≡ fit_end n m c
 fit_end_lem n m c e f = fit_settled n m c e (fit_end n m c) f (fit_total n m c)
+
+-- by what the tests come to, at the layout of a pair
+module _ (n m : ℕ) (c : FitCall) (L : Layout) (k : Pair n m) (is : L ≡ layout n m) where
+  pub fit_refused : {number place : ℕ} → fit_tests L c.table c.basis (length c.work) (length c.out) ≡ refused number place
+      → record { outcome = refused number place; work = c.work; out = c.out } ≡ fit_end n m c
+  fit_refused {number} {place} h =
+      let e : FitEnd = record { outcome = refused number place; work = c.work; out = c.out } in
+      fit_end_lem n m c e (fit_at_pair L c n m k is e (refused_at L c number place h))
+
+  pub fit_finds : (e : FitEnd) {values : List ℕ} → fit_tests L c.table c.basis (length c.work) (length c.out) ≡ done values
+      → (e.work ≡ replicate (length c.work) 0) × Found L c e.out e.outcome → e ≡ fit_end n m c
+  fit_finds e h f = fit_end_lem n m c e (fit_at_pair L c n m k is e (passed_at L c e h f))

@@ -1,13 +1,11 @@
 -- The operation Check.
 use Rattle.std.specs.Prelude.{cond, List, [], ◌∷◌, ℕ, suc, ◌%◌, leb, eqb, length}
 use Rattle.xor.specs.Sum.{sum_of}
-use Rattle.refusal.specs.Outcome.{Outcome, done, refused, test, and_then}
+use Rattle.refusal.specs.Outcome.{Outcome, done, test, and_then}
 use Rattle.refusal.specs.Large.{test_below}
 use Rattle.field.specs.Mul.{mul}
 use Rattle.decomposition.specs.Form.{form, value_of}
 use Rattle.decomposition.specs.Record.{coefficients_of, basis_of, solution_of, layout_of, read_outcome}
-use Rattle.decomposition.specs.declared.checking.CheckAnswer.{CheckAnswer}
-use Rattle.decomposition.specs.declared.checking.CheckAnswer.TheVariants.{Done, Refused}
 use Rattle.decomposition.specs.declared.layouts.Layout.{Layout}
 
 -- the form of a record's coefficients at x
@@ -42,8 +40,3 @@ check_at L r table =
 -- what Check answers
 unfoldable pub check_outcome : List ℕ → List ℕ → Outcome
 check_outcome r table = and_then (read_outcome r) (check_at (layout_of r) r table)
-
--- the outcome that each case of the answer stands for
-abbrev pub check_report : CheckAnswer → Outcome
-check_report Done = done []
-check_report (Refused number place) = refused number place

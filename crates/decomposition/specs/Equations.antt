@@ -1,7 +1,6 @@
 -- For inner contracts only. The linear equations whose unknowns are the coefficients of p1 to pt, and how they lie in the work of Fit.
-use Rattle.std.specs.Prelude.{cond, List, ◌≡◌, ℕ, ◌+◌, ◌*◌, ◌≤◌, ◌<◌, ltb, length, get_or}
-use Rattle.xor.specs.Sum.{Small}
-use Rattle.linear.specs.Bits.{bitwise}
+use Rattle.std.specs.Prelude.{cond, List, ◌≡◌, ℕ, ◌+◌, ◌*◌, ◌≤◌, ◌<◌, ltb, get_or}
+use Rattle.linear.specs.Bits.{bitwise, row_of}
 use Rattle.linear.specs.Packed.{bit_cell}
 use Rattle.linear.specs.Buffer.{cell}
 use Rattle.linear.specs.Row.{Agree}
@@ -30,32 +29,10 @@ pub record BlockWritten (w : ℕ) (M₀ M : ℕ → ℕ → ℕ) (row m c k : �
   pub left : (i j : ℕ) → j < c → M i j ≡ M₀ i j
   pub above : (i j : ℕ) → i < row → j < w → M i j ≡ M₀ i j
 
+-- the same at a layout, where the rows are those of an input and the entries are the bits of the row r
+abbrev pub BitsWritten : Layout → List ℕ → List ℕ → ℕ → ℕ → ℕ → (ℕ → ℕ) → Type 0
+BitsWritten L l₀ l row c k r = BlockWritten (L.stride * 8) (bit_cell L.stride l₀) (bit_cell L.stride l) row L.outputs c k (λ b. row_of L.width b r)
+
 -- the rows below r hold their equations over bits
 pub record BitRows (L : Layout) (table basis : List ℕ) (r : ℕ) (l : List ℕ) : Type 0 where
   pub row : (i : ℕ) → i < r → Agree (L.unknowns * L.width + 1) (bit_cell L.stride l i) (bit_system L table basis i)
-
--- what an equation needs: room at a
-pub record EquationReady (L : Layout) (basis l : List ℕ) (a : ℕ) : Type 0 where
-  pub whole : length basis ≡ L.basis
-  pub room : a + (L.unknowns + 1) ≤ length l
-
--- what the equations need
-pub record EquationsReady (L : Layout) (table basis l : List ℕ) : Type 0 where
-  pub inputs : length table ≡ L.inputs
-  pub whole : length basis ≡ L.basis
-  pub room : length l ≡ L.inputs * (L.unknowns + 1)
-
--- what the equations over bits need
-pub record BitsReady (L : Layout) (table basis l : List ℕ) : Type 0 where
-  pub inputs : length table ≡ L.inputs
-  pub whole : length basis ≡ L.basis
-  pub room : L.inputs * L.outputs * L.stride ≤ length l
-
--- what the solution needs: room for the equations in l, and for the unknowns in p
-pub record SolveReady (L : Layout) (table basis l p : List ℕ) : Type 0 where
-  pub inputs : length table ≡ L.inputs
-  pub whole : length basis ≡ L.basis
-  pub room : length l ≡ L.work
-  pub unknowns : length p ≡ L.unknowns
-  pub entries : Small L.outputs table
-  pub elements : Small L.width basis

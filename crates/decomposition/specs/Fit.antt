@@ -7,10 +7,6 @@ use Rattle.decomposition.specs.Form.{Decomposition, NoDecomposition}
 use Rattle.decomposition.specs.Layout.{known, paired, layout, record_size}
 use Rattle.decomposition.specs.Record.{record_of}
 use Rattle.decomposition.specs.Solution.{solvable, solution}
-use Rattle.decomposition.specs.declared.fitting.FitAnswer.{FitAnswer}
-use Rattle.decomposition.specs.declared.fitting.FitAnswer.TheVariants.{Done, Refused}
-use Rattle.decomposition.specs.declared.fitting.HouseFitAnswer.{HouseFitAnswer}
-use Rattle.decomposition.specs.declared.fitting.HouseFitAnswer.TheVariants.{Done as HouseDone, Refused as HouseRefused}
 use Rattle.decomposition.specs.declared.layouts.Layout.{Layout}
 
 -- ---- a call and its end
@@ -135,15 +131,3 @@ IsFit n m c e = AfterTests (layout n m) c e (all_tests n m c)
 abbrev pub Decomposed : Layout → List ℕ → List ℕ → List ℕ → List ℕ → Bool → Type 0
 Decomposed L table basis p p' true = Decomposition L table basis p'
 Decomposed L table basis p p' false = NoDecomposition L table basis × (p' ≡ p)
-
--- ---- answers
-
--- the outcome that each case of the answer stands for: of Fit
-abbrev pub fit_report : FitAnswer → Outcome
-fit_report Done = done []
-fit_report (Refused number place) = refused number place
-
--- and of House fit
-abbrev pub house_fit_report : HouseFitAnswer → Outcome
-house_fit_report HouseDone = done []
-house_fit_report (HouseRefused number place) = refused number place

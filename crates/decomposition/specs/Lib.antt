@@ -1,6 +1,7 @@
 pub mod Layout
 pub mod Form
 pub mod Record
+pub mod Reading
 pub mod Check
 pub mod Solution
 pub mod Fit

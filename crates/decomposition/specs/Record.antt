@@ -2,11 +2,9 @@
 use Rattle.std.specs.Prelude.{Bool, true, cond, ◌&&◌, ◌||◌, List, [], ◌∷◌, ◌++◌, ◌≡◌, ℕ, leb, eqb, length, get_or, take, drop}
 use Rattle.xor.specs.Sum.{Small}
 use Rattle.refusal.specs.Large.{test_below}
-use Rattle.refusal.specs.Outcome.{Outcome, done, refused, test}
+use Rattle.refusal.specs.Outcome.{Outcome, done, test}
 use Rattle.decomposition.specs.Layout.{known, paired, head, layout, record_size, Pair}
 use Rattle.decomposition.specs.declared.layouts.Layout.{Layout}
-use Rattle.decomposition.specs.declared.reading.ReadAnswer.{ReadAnswer}
-use Rattle.decomposition.specs.declared.reading.ReadAnswer.TheVariants.{Done, Refused}
 
 -- ---- the record
 
@@ -72,6 +70,14 @@ read_pair r =
     (test (paired (width_of r) (outputs_of r)) 9 0
     (read_at (layout_of r) r))
 
+-- the same of parts: the coefficients, which follow a head of so many bytes
+abbrev pub coefficients_tests : Layout → ℕ → List ℕ → Outcome
+coefficients_tests L head cs = test (eqb (length cs) L.coefficients) 2 0 (test_below L.inputs head cs (done (L.width ∷ [])))
+
+-- and before these the output bits
+abbrev pub pair_tests : ℕ → ℕ → ℕ → List ℕ → Outcome
+pair_tests n m head cs = test (paired n m) 9 0 (coefficients_tests (layout n m) head cs)
+
 -- what Read answers
 unfoldable pub read_outcome : List ℕ → Outcome
 read_outcome r =
@@ -79,11 +85,6 @@ read_outcome r =
     (test (marked r) 5 0
     (test (known (width_of r)) 1 0
     (read_pair r)))
-
--- the outcome that each case of the answer stands for
-abbrev pub read_report : ReadAnswer → Outcome
-read_report (Done width) = done (width ∷ [])
-read_report (Refused number place) = refused number place
 
 -- a record that Read accepts, of width n (proofs/ReadOutcome.antt, `read_accepted` and `accepted_read`)
 pub record Accepted (n : ℕ) (r : List ℕ) : Type 0 where

@@ -1,44 +1,54 @@
 // THE decomposition of a table over a basis: the equations, and their solution.
-ghost use Rattle.std.specs.Prelude.{◌≡◌};
-ghost use Rattle.decomposition.specs.Layout.{Sizes};
-ghost use Rattle.decomposition.specs.Equations.{SolveReady};
+ghost use Rattle.std.specs.Prelude.{◌≡◌, length};
 ghost use Rattle.decomposition.specs.Fit.{Decomposed};
 
 use crate::bit_equations::bit_equations;
 use crate::equations::equations;
-use crate::layouts::{Layout, ROW};
+use crate::layouts::ROW;
+use crate::problems::Problem;
+use linear::{BitMatrix, ElementMatrix, solve};
 
 // At equal widths the equations are over elements.
-fn over_elements(layout: Layout, table: &[u8], basis: &[u8], work: &mut [u8], p: &mut [u8]) -> bool
-    requires sizes { Sizes layout }
-    requires solve_ready { SolveReady layout table.now basis.now work.old p.old × (layout.outputs ≡ layout.width) }
-    ensures { Decomposed layout table.now basis.now p.old p.new result }
+fn over_elements(problem: &Problem, work: &mut [u8], p: &mut [u8]) -> bool
+    requires room { (length work.old ≡ problem.now.layout.work) × (length p.old ≡ problem.now.layout.unknowns) }
+    requires same_width { problem.now.layout.outputs ≡ problem.now.layout.width }
+    ensures { Decomposed problem.now.layout problem.now.table.now problem.now.basis.now p.old p.new result }
 {
-    equations(layout, table, basis, work);
-    linear::solve(layout.width, work, layout.unknowns, layout.inputs, p)
+    let layout = problem.layout;
+    equations(problem, work);
+    let system = ElementMatrix {
+        width: layout.width,
+        rows: layout.inputs,
+        unknowns: layout.unknowns,
+    };
+    solve(system, work, p)
 }
 
 // At other widths they are over bits.
-fn over_bits(layout: Layout, table: &[u8], basis: &[u8], work: &mut [u8], p: &mut [u8]) -> bool
-    requires sizes { Sizes layout }
-    requires solve_ready { SolveReady layout table.now basis.now work.old p.old × (layout.outputs ≡ layout.width → ⊥) }
-    ensures { Decomposed layout table.now basis.now p.old p.new result }
+fn over_bits(problem: &Problem, work: &mut [u8], p: &mut [u8]) -> bool
+    requires room { (length work.old ≡ problem.now.layout.work) × (length p.old ≡ problem.now.layout.unknowns) }
+    requires other_width { problem.now.layout.outputs ≡ problem.now.layout.width → ⊥ }
+    ensures { Decomposed problem.now.layout problem.now.table.now problem.now.basis.now p.old p.new result }
 {
-    let n = layout.width as usize;
-    let m = layout.outputs as usize;
-    bit_equations(layout, table, basis, work);
-    linear::solve_bits(n, work, ROW, layout.unknowns * n, layout.inputs * m, p)
+    let layout = problem.layout;
+    let width = layout.width as usize;
+    bit_equations(problem, work);
+    let system = BitMatrix::<ROW> {
+        width,
+        rows: layout.inputs * layout.outputs as usize,
+        unknowns: layout.unknowns * width,
+    };
+    solve(system, work, p)
 }
 
 // Writes the coefficients p1 to pt of THE decomposition and returns true; where no p meets the table it writes nothing and returns false.
-pub fn decompose(layout: Layout, table: &[u8], basis: &[u8], work: &mut [u8], p: &mut [u8]) -> bool
-    requires sizes { Sizes layout }
-    requires solve_ready { SolveReady layout table.now basis.now work.old p.old }
-    ensures { Decomposed layout table.now basis.now p.old p.new result }
+pub fn decompose(problem: &Problem, work: &mut [u8], p: &mut [u8]) -> bool
+    requires room { (length work.old ≡ problem.now.layout.work) × (length p.old ≡ problem.now.layout.unknowns) }
+    ensures { Decomposed problem.now.layout problem.now.table.now problem.now.basis.now p.old p.new result }
 {
-    if layout.outputs == layout.width {
-        over_elements(layout, table, basis, work, p)
+    if problem.layout.outputs == problem.layout.width {
+        over_elements(problem, work, p)
     } else {
-        over_bits(layout, table, basis, work, p)
+        over_bits(problem, work, p)
     }
 }

@@ -1,7 +1,11 @@
 // The pairs of width and output bits, and how things lie in bytes at each.
-ghost use Rattle.std.specs.Prelude.{◌≡◌};
+ghost use Rattle.std.specs.Prelude.{◌≡◌, IfOk, []};
+ghost use Rattle.refusal.specs.Outcome.{done, test};
+ghost use Rattle.refusal.specs.Refusals.{report};
 ghost use Rattle.decomposition.specs.Layout as spec;
-ghost use Rattle.decomposition.specs.Layout.{Pair};
+ghost use Rattle.decomposition.specs.Layout.{known, paired};
+
+use refusal::Refusal;
 
 // The bytes of the head of a record of version 2: the mark, the version, the width and the output bits.
 pub const HEAD: usize = 7;
@@ -38,56 +42,39 @@ pub struct Layout {
     pub work: usize,
 }
 
-// Whether there are decompositions of the width.
-pub fn known(width: u32) -> bool
-    ensures { result ≡ spec.known width }
-{
-    width == 4 || width == 6
-}
+impl Layout {
+    // Four bits in and four out.
+    pub const FOUR: Layout = Layout {
+        width: 4,
+        outputs: 4,
+        inputs: 16,
+        entries: 16,
+        exponents: 9,
+        terms: 2,
+        unknowns: 18,
+        basis: 9,
+        coefficients: 27,
+        stride: 10,
+        work: 304,
+    };
 
-// Whether so many output bits pair with the width.
-pub fn paired(width: u32, outputs: u32) -> bool
-    ensures { result ≡ spec.paired width outputs }
-{
-    outputs == width || (width == 6 && outputs == 4)
-}
+    // Six bits in and six out.
+    pub const SIX: Layout = Layout {
+        width: 6,
+        outputs: 6,
+        inputs: 64,
+        entries: 64,
+        exponents: 19,
+        terms: 4,
+        unknowns: 76,
+        basis: 57,
+        coefficients: 133,
+        stride: 58,
+        work: 4928,
+    };
 
-// The layout for a width and its output bits.
-pub fn layout_of(width: u32, outputs: u32) -> Layout
-    requires { Pair width outputs }
-    ensures { result ≡ spec.layout width outputs }
-{
-    if width == 4 {
-        return Layout {
-            width: 4,
-            outputs: 4,
-            inputs: 16,
-            entries: 16,
-            exponents: 9,
-            terms: 2,
-            unknowns: 18,
-            basis: 9,
-            coefficients: 27,
-            stride: 10,
-            work: 304,
-        };
-    }
-    if outputs == 6 {
-        return Layout {
-            width: 6,
-            outputs: 6,
-            inputs: 64,
-            entries: 64,
-            exponents: 19,
-            terms: 4,
-            unknowns: 76,
-            basis: 57,
-            coefficients: 133,
-            stride: 58,
-            work: 4928,
-        };
-    }
-    Layout {
+    // Six bits in and four out.
+    pub const SIX_TO_FOUR: Layout = Layout {
         width: 6,
         outputs: 4,
         inputs: 64,
@@ -99,5 +86,26 @@ pub fn layout_of(width: u32, outputs: u32) -> Layout
         coefficients: 95,
         stride: ROW,
         work: 11008,
+    };
+
+    // The layout for a width and its output bits.
+    pub fn of(width: u32, outputs: u32) -> Result<Layout, Refusal>
+        ensures outcome { report (λ _. []) result ≡ test (known width) 1 0 (test (paired width outputs) 9 0 (done [])) }
+        ensures layout { IfOk result (λ L. L ≡ spec.layout width outputs) }
+    {
+        match (width, outputs) {
+            (4, 4) => Ok(Layout::FOUR),
+            (6, 6) => Ok(Layout::SIX),
+            (6, 4) => Ok(Layout::SIX_TO_FOUR),
+            (4 | 6, _) => Err(Refusal::OutputBits),
+            _ => Err(Refusal::Width),
+        }
     }
+}
+
+// Whether there are decompositions of the width.
+pub fn known(width: u32) -> bool
+    ensures { result ≡ spec.known width }
+{
+    width == 4 || width == 6
 }

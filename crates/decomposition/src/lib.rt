@@ -8,8 +8,12 @@ mod equations;
 pub mod fitting;
 pub mod layouts;
 mod polynomial;
+mod problems;
 pub mod reading;
+pub mod records;
 
-pub use checking::{CheckAnswer, check};
-pub use fitting::{FitAnswer, HouseFitAnswer, fit, house_fit};
-pub use reading::{ReadAnswer, head_of, outputs_of, read};
+pub use checking::check;
+pub use fitting::{fit, house_fit};
+pub use layouts::Layout;
+pub use reading::read;
+pub use records::Record;

@@ -1,16 +1,50 @@
-// Powers over the listed exponents, the values of polynomials, and the form of a record's coefficients.
-ghost use Rattle.std.specs.Prelude.{◌≡◌, ℕ, ◌+◌, ◌-◌, ◌^◌, ◌<◌, ◌≤◌, length};
+// The powers of an input over the listed exponents, and the values of polynomials there.
+ghost use Rattle.std.specs.Prelude.{◌≡◌, ◌+◌, ◌*◌, ◌^◌, ◌<◌, ◌≤◌, length, take, map};
 ghost use Rattle.field.specs.Mul.{Narrow};
 ghost use Rattle.field.specs.Power.{pow};
 ghost use Rattle.field.specs.Polynomial.{exponents};
-ghost use Rattle.linear.specs.Scalars.{scalars};
-ghost use Rattle.linear.specs.Row.{Agree, dot};
-ghost use Rattle.linear.specs.Buffer.{from, Overwritten};
 ghost use Rattle.decomposition.specs.Layout.{Sizes};
-ghost use Rattle.decomposition.specs.Form.{monomial};
-ghost use Rattle.decomposition.specs.Check.{form_in, products_in};
+ghost use Rattle.decomposition.specs.Form.{value_of};
 
 use crate::layouts::Layout;
+
+// The powers of an input x at a layout, one for each listed exponent.
+#[derive(Clone, Copy)]
+pub struct Powers {
+    pub layout: Layout,
+    pub x: u8,
+    pub row: [u8; 32],
+    pub ghost sizes: { ∥ Sizes layout ∥₁ },
+    pub ghost input: { x < layout.inputs },
+    pub ghost powers: { take layout.exponents row ≡ map (pow layout.width x) (exponents layout.width) },
+}
+
+impl Powers {
+    // The powers of x.
+    pub fn of(layout: Layout, x: u8) -> Powers
+        requires sizes { Sizes layout }
+        requires input { x < layout.inputs }
+        ensures { (result.layout ≡ layout) × (result.x ≡ x) }
+    {
+        let mut row = [0u8; 32];
+        write_powers(layout.width, x, &mut row[..layout.exponents]);
+        Powers { layout, x, row }
+    }
+
+    // The value of polynomial number i, where the polynomials lie one after the other.
+    pub fn value(&self, coefficients: &[u8], i: usize) -> u8
+        requires { i * self.now.layout.exponents + self.now.layout.exponents ≤ length coefficients.now }
+        ensures { result ≡ value_of self.now.layout coefficients.now i self.now.x }
+    {
+        let width = self.layout.width;
+        let first = i * self.layout.exponents;
+        let polynomial = &coefficients[first..first + self.layout.exponents];
+        polynomial
+            .iter()
+            .zip(&self.row)
+            .fold(0, |sum, (c, power)| sum ^ field::mul(width, *c, *power))
+    }
+}
 
 // x to the power `next`, where `power` is x to the power e: its square, if `next` follows e.
 fn next_power(width: u32, x: u8, e: u8, power: u8, next: u8) -> u8
@@ -25,82 +59,18 @@ fn next_power(width: u32, x: u8, e: u8, power: u8, next: u8) -> u8
     }
 }
 
-// Writes the powers of x from a on, one for each of the first exponents.
-pub fn power_row(width: u32, count: usize, out: &mut [u8], a: usize, x: u8)
+// Writes the powers of x, one for each listed exponent.
+fn write_powers(width: u32, x: u8, out: &mut [u8])
     requires narrow { Narrow width }
-    requires x_bound { (x < 2 ^ width) × (count ≤ length (exponents width)) × (a + count ≤ length out.old) }
-    ensures { Overwritten out.old out.new a count (monomial width x) }
+    requires x_bound { (x < 2 ^ width) × (length out.old ≡ length (exponents width)) }
+    ensures { out.new ≡ map (pow width x) (exponents width) }
 {
     let mut e: u8 = 0;
     let mut power: u8 = 1;
-    let mut j = 0;
-    while j < count {
+    for (j, place) in out.iter_mut().enumerate() {
         let next = field::exponent(width, j);
         power = next_power(width, x, e, power, next);
-        out[a + j] = power;
+        *place = power;
         e = next;
-        j += 1;
     }
-}
-
-// The value of the polynomial whose coefficients stand at b, where the powers of the input stand at a.
-pub fn evaluate(
-    width: u32,
-    count: usize,
-    coefficients: &[u8],
-    b: usize,
-    powers: &[u8],
-    a: usize,
-) -> u8
-    requires narrow { Narrow width }
-    requires count_in_bounds { (b + count ≤ length coefficients.now) × (a + count ≤ length powers.now) }
-    ensures { result ≡ dot (scalars width) count (from coefficients.now b) (from powers.now a) }
-{
-    let mut sum = 0u8;
-    let mut j = 0;
-    while j < count {
-        let c = coefficients[b + j];
-        let x = powers[a + j];
-        sum = sum ^ field::mul(width, c, x);
-        j += 1;
-    }
-    sum
-}
-
-// p1·q1 + .. + p(t-1)·q(t-1) of a record's coefficients at an input, whose powers are given.
-fn products(layout: Layout, coefficients: &[u8], powers: &[u8]) -> u8
-    requires sizes { Sizes layout }
-    requires coefficients_len { (length coefficients.now ≡ layout.coefficients) × (layout.exponents ≤ length powers.now) }
-    ensures { (x : ℕ) → Agree layout.exponents (from powers.now 0) (monomial layout.width x)
-        → result ≡ products_in layout coefficients.now x (layout.terms - 1) }
-{
-    let width = layout.width;
-    let count = layout.exponents;
-    let last = layout.terms - 1;
-    let start = layout.basis;
-    let mut sum = 0u8;
-    let mut i = 0;
-    while i < last {
-        let p = evaluate(width, count, coefficients, start + i * count, powers, 0);
-        let q = evaluate(width, count, coefficients, i * count, powers, 0);
-        sum = sum ^ field::mul(width, p, q);
-        i += 1;
-    }
-    sum
-}
-
-// The form of a record's coefficients at an input.
-pub fn form_at(layout: Layout, coefficients: &[u8], x: u8) -> u8
-    requires sizes { Sizes layout }
-    requires coefficients_len { (length coefficients.now ≡ layout.coefficients) × (x < layout.inputs) }
-    ensures { result ≡ form_in layout coefficients.now x }
-{
-    let width = layout.width;
-    let count = layout.exponents;
-    let last = layout.terms - 1;
-    let start = layout.basis;
-    let mut powers = [0u8; 32];
-    power_row(width, count, &mut powers, 0, x);
-    let sum = products(layout, coefficients, &powers);
-    sum ^ evaluate(width, count, coefficients, start + last * count, &powers, 0)
 }

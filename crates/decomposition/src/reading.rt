@@ -1,132 +1,72 @@
 // The operation Read.
-ghost use Rattle.std.specs.Prelude.{◌≡◌, ◌≤◌, length};
-ghost use Rattle.refusal.specs.Outcome.{refused};
-ghost use Rattle.decomposition.specs.Layout.{Known, Pair, Sizes};
-ghost use Rattle.decomposition.specs.Layout as sizes;
+ghost use Rattle.std.specs.Prelude.{◌≡◌, ◌≤◌};
+ghost use Rattle.refusal.specs.Refusals.{report};
+ghost use Rattle.decomposition.specs.Layout.{Known, Sizes, layout};
+ghost use Rattle.decomposition.specs.Reading.{width_in, HandsBack};
 ghost use Rattle.decomposition.specs.Record as spec;
-ghost use Rattle.decomposition.specs.Record.{version_of, width_of, outputs_of, layout_of, read_at, read_pair, read_report, read_outcome};
+ghost use Rattle.decomposition.specs.Record.{layout_of, coefficients_of, coefficients_tests, pair_tests, read_outcome};
 
-use crate::layouts::{HEAD, Layout, SHORT_HEAD, known, layout_of, paired};
-use refusal::first_large;
-
-// The answer of Read: the width.
-#[derive(Clone, Copy)]
-pub enum ReadAnswer {
-    Done { width: u32 },
-    Refused { number: u8, place: usize },
-}
-
-impl ReadAnswer {
-    // A refusal.
-    fn refuse(number: u8, place: usize) -> ReadAnswer
-        ensures { read_report result ≡ refused number place }
-    {
-        ReadAnswer::Refused { number, place }
-    }
-}
+use crate::layouts::{HEAD, Layout, SHORT_HEAD, known};
+use crate::records::Record;
+use refusal::{Refusal, refuse_large, refuse_unless};
 
 // Whether the record begins with the letters `DCP` and the version, 1 or 2.
+#[tactic(auto, unfolding(crate::specs::Record::marked))]
 fn marked(bytes: &[u8]) -> bool
-    requires { 6 ≤ length bytes.now }
     ensures { result ≡ spec.marked bytes.now }
 {
-    if bytes[0] != b'D' {
-        return false;
-    }
-    if bytes[1] != b'C' {
-        return false;
-    }
-    if bytes[2] != b'P' {
-        return false;
-    }
-    if bytes[3] != 0 {
-        return false;
-    }
-    bytes[4] == 1 || bytes[4] == 2
+    matches!(bytes, [b'D', b'C', b'P', 0, 1 | 2, ..])
 }
 
-// The bytes of the record's head.
-pub fn head_of(bytes: &[u8]) -> usize
-    requires { 6 ≤ length bytes.now }
-    ensures { result ≡ sizes.head (version_of bytes.now) }
-{
-    if bytes[4] == 2 { HEAD } else { SHORT_HEAD }
-}
-
-// The output bits that the record names.
-pub fn outputs_of(bytes: &[u8]) -> u32
-    requires { (6 ≤ length bytes.now) × (sizes.head (version_of bytes.now) ≤ length bytes.now) }
-    ensures { result ≡ outputs_of bytes.now }
-{
-    if bytes[4] == 2 {
-        bytes[6] as u32
-    } else {
-        bytes[5] as u32
-    }
-}
-
-// How the record lies in bytes.
-pub fn layout_in(bytes: &[u8]) -> Layout
-    requires in_bounds { (6 ≤ length bytes.now) × (sizes.head (version_of bytes.now) ≤ length bytes.now) }
-    requires pair { Pair (width_of bytes.now) (outputs_of bytes.now) }
-    ensures { result ≡ layout_of bytes.now }
-{
-    layout_of(bytes[5] as u32, outputs_of(bytes))
-}
-
-// Read's tests once width and output bits are known.
-fn read_at(layout: Layout, bytes: &[u8]) -> ReadAnswer
+// Read's tests of the coefficients, which follow a head of so many bytes.
+fn read_at(layout: Layout, head: usize, coefficients: &[u8]) -> Result<Record<'_>, Refusal>
     requires sizes { Sizes layout }
-    requires in_bounds { (6 ≤ length bytes.now) × (sizes.head (version_of bytes.now) ≤ length bytes.now) }
-    ensures { read_report result ≡ read_at layout bytes.now }
+    requires head { head ≤ 7 }
+    ensures outcome { report width_in result ≡ coefficients_tests layout head coefficients.now }
+    ensures record { HandsBack result layout coefficients.now }
 {
-    let head = head_of(bytes);
-    let end = head + layout.coefficients;
-    if bytes.len() != end {
-        return ReadAnswer::refuse(2, 0);
-    }
-    let at = first_large(layout.inputs as u8, &bytes[head..end]);
-    if at < layout.coefficients {
-        return ReadAnswer::refuse(3, head + at);
-    }
-    ReadAnswer::Done {
-        width: layout.width,
-    }
+    refuse_unless(coefficients.len() == layout.coefficients, Refusal::Length)?;
+    refuse_large(layout.inputs as u8, coefficients, head)?;
+    Ok(Record {
+        layout,
+        coefficients,
+    })
 }
 
 // Read's tests once the width is known. Each pair is named, so that the number of coefficients is known where they are tested.
-fn read_pair(bytes: &[u8]) -> ReadAnswer
-    requires { (6 ≤ length bytes.now) × Known (width_of bytes.now) }
-    ensures { read_report result ≡ read_pair bytes.now }
+fn read_pair(
+    width: u8,
+    outputs: u8,
+    head: usize,
+    coefficients: &[u8],
+) -> Result<Record<'_>, Refusal>
+    requires known { Known width }
+    requires head { head ≤ 7 }
+    ensures outcome { report width_in result ≡ pair_tests width outputs head coefficients.now }
+    ensures record { HandsBack result (layout width outputs) coefficients.now }
 {
-    if bytes.len() < head_of(bytes) {
-        return ReadAnswer::refuse(2, 0);
+    match (width, outputs) {
+        (4, 4) => read_at(Layout::FOUR, head, coefficients),
+        (6, 6) => read_at(Layout::SIX, head, coefficients),
+        (6, 4) => read_at(Layout::SIX_TO_FOUR, head, coefficients),
+        _ => Err(Refusal::OutputBits),
     }
-    let outputs = outputs_of(bytes);
-    if !paired(bytes[5] as u32, outputs) {
-        return ReadAnswer::refuse(9, 0);
-    }
-    if bytes[5] == 4 {
-        return read_at(layout_of(4, 4), bytes);
-    }
-    if outputs == 6 {
-        return read_at(layout_of(6, 6), bytes);
-    }
-    read_at(layout_of(6, 4), bytes)
 }
 
-// Read: accepts a record or refuses it, and hands back the width.
-pub fn read(bytes: &[u8]) -> ReadAnswer
-    ensures { read_report result ≡ read_outcome bytes.now }
+// Read: accepts a record or refuses it.
+pub fn read(bytes: &[u8]) -> Result<Record<'_>, Refusal>
+    ensures outcome { report width_in result ≡ read_outcome bytes.now }
+    ensures record { HandsBack result (layout_of bytes.now) (coefficients_of bytes.now) }
 {
-    if bytes.len() < SHORT_HEAD {
-        return ReadAnswer::refuse(2, 0);
-    }
-    if !marked(bytes) {
-        return ReadAnswer::refuse(5, 0);
-    }
-    if !known(bytes[5] as u32) {
-        return ReadAnswer::refuse(1, 0);
-    }
-    read_pair(bytes)
+    let [_, _, _, _, version, width, rest @ ..] = bytes else {
+        return Err(Refusal::Length);
+    };
+    refuse_unless(marked(bytes), Refusal::Mark)?;
+    refuse_unless(known(*width as u32), Refusal::Width)?;
+    let (outputs, head, coefficients) = match (*version, rest) {
+        (2, [outputs, coefficients @ ..]) => (*outputs, HEAD, coefficients),
+        (2, []) => return Err(Refusal::Length),
+        _ => (*width, SHORT_HEAD, rest),
+    };
+    read_pair(*width, outputs, head, coefficients)
 }

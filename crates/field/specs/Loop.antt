@@ -1,5 +1,5 @@
 -- The product's loop, as FIPS 197 tells a product (4.2, 4.2.1): the first factor is doubled again and again, and
--- added where a bit of the second is set, lowest bit first. The loop of `double_and_add` has this as its invariant.
+-- added where a bit of the second is set, lowest bit first. The loop of `Field::multiply` has this as its invariant.
 use Rattle.std.specs.Prelude.{◌≡◌, ℕ, zero, suc, ◌/◌, ◌%◌, ◌^◌}
 use Rattle.field.specs.Mul.{double, mul}
 

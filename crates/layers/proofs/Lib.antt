@@ -1,2 +1,3 @@
 pub mod Exchanges
 pub mod State
+pub mod KeyParts

@@ -1,31 +1,70 @@
 -- The laws of shares in bytes: what a changed byte, and bytes that are written, do to the shares.
-use mathlib.Core.Path.{◌≡◌, sym, ap, ap₂, ◌∙◌}
-use mathlib.Core.List.{List}
+use mathlib.Core.Path.{◌≡◌, refl, sym, ap, ap₂, ◌∙◌}
+use mathlib.Core.List.{List, [], ◌∷◌, ◌++◌}
 use Prim.Native.Nat.{ℕ, zero, suc, ◌+◌, ◌-◌, ◌*◌, ◌/◌, ◌%◌, ◌^◌, ◌≤◌, ◌<◌}
-use native.Mathlib.Nat.{mod-lt, add_assoc, mul_assoc, mod-eq_of_lt, lt_of_lt_of_le}
-use native.Mathlib.Decide.{dec_lt, ℕ_discrete}
+use native.Mathlib.Nat.{zero-add, add-mul, mul_assoc, mod-eq_of_lt, lt_of_lt_of_le}
 use native.Mathlib.Omega.{arith}
-use lib.Arith.{digits_lt}
-use lib.ListN.{length, get_or, set, length-set}
-use lib.Pow.{pow_pos, pow-add, pow_mono, shl_lt, shr-shr, high}
-use lib.Seq.{paste, length-paste, get_or-set_same, get_or-set_other, set_out}
+use lib.ListN.{length, get_or, set, take, drop, length-append, length-drop}
+use lib.Pow.{pow-add, pow_mono, shl_lt, shr-shr, high}
+use lib.Seq.{paste, length-take-le, get_or-take, get_or-drop, get_or-set_other}
+use borrow.Rule.Slice.PartMut.{put_mid}
+use Rattle.std.proofs.lemmas.List.{take-append-drop}
+use Rattle.std.proofs.lemmas.Slice.{put_mid-paste}
 use Rattle.xor.specs.Xor.{◌⊕◌}
 use Rattle.xor.specs.Sum.{Small}
-use Rattle.xor.proofs.Xor.{⊕-lt, ⊕-cancel, ⊕-assoc}
-use Rattle.field.proofs.Tests.{same_below}
+use Rattle.xor.proofs.Xor.{⊕-lt, ⊕-cancel}
+use Rattle.steps.specs.Fill.{tabulate}
+use Rattle.steps.proofs.Fill.{tabulate_same, tabulate_get_or}
 use Rattle.steps.specs.Bytes.{from_bytes, to_bytes}
-use Rattle.present.specs.Present.{nibble, replace, size80, round_key, rotate, round_number}
-use Rattle.present.specs.Decrypt.{unrotate}
-use Rattle.steps.proofs.Bytes.{length_to_bytes}
+use Rattle.present.specs.Present.{nibble, replace, size80, round_key}
+use Rattle.steps.proofs.Bytes.{length_to_bytes, from_to_bytes}
 use Rattle.present.proofs.Numbers.{replace_is}
 use Rattle.steps.specs.ShareBytes.{bytes_at, share_at, Changed}
-use Rattle.steps.proofs.Number.{number_parts, number_lt, number_byte, number_same, number_set, paste_before, paste_after, number_put}
+use Rattle.steps.proofs.Number.{number_parts, number_lt, number_byte, number_set, paste_there, paste_before, paste_after, get_or_to_bytes}
 
--- ---- a share is changed
+-- ---- the number that bytes are
 
-pub changed_then : {w i x y : ℕ} {l m n : List ℕ} → Changed w i x l m → Changed w i y m n → Changed w i y l n
-changed_then h k =
-    record { here = k.here; earlier = λ j f. k.earlier j f ∙ h.earlier j f; later = λ j f. k.later j f ∙ h.later j f }
+pub bytes_all : (l : List ℕ) → bytes_at 0 (length l) l ≡ l
+unfolding bytes_at
+bytes_all l = tabulate_same (length l) (λ j. get_or l (0 + j) 0) (λ j. get_or l j 0) (λ j h. ap (λ (n : ℕ). get_or l n 0) (zero-add j)) ∙ tabulate_get_or l 0
+
+-- of two strings, one after the other
+pub from_both : (a b : List ℕ) → from_bytes (a ++ b) ≡ from_bytes a * 2 ^ (8 * length b) + from_bytes b
+unfolding from_bytes
+from_both [] b = omega arith
+from_both (x ∷ a) b =
+    let n = 2 ^ (8 * length b) in
+    let e : 8 * length (a ++ b) ≡ 8 * length a + 8 * length b = omega (arith, length-append a b) in
+    ap₂ (λ (y z : ℕ). x * y + z) (ap (λ (k : ℕ). 2 ^ k) e ∙ pow-add 2 (8 * length a) (8 * length b)) (from_both a b)
+    ∙ ap (λ (y : ℕ). y + (from_bytes a * n + from_bytes b)) (sym (mul_assoc x (2 ^ (8 * length a)) n))
+    ∙ omega (arith, add-mul (x * 2 ^ (8 * length a)) (from_bytes a) n)
+
+pub from_parts : (v w : ℕ) (l : List ℕ) → length l ≡ v + w → from_bytes l ≡ from_bytes (take v l) * 2 ^ (8 * w) + from_bytes (drop v l)
+from_parts v w l e =
+    let size : length (drop v l) ≡ w = omega (arith, length-drop v l) in
+    ap from_bytes (sym (take-append-drop v l)) ∙ from_both (take v l) (drop v l) ∙ rw size
+
+-- of what was written
+pub from_written : (w k x : ℕ) {ys : List ℕ} → ys ≡ to_bytes k x → length ys ≡ w → x < 2 ^ (8 * w) → from_bytes ys ≡ x
+from_written w k x {ys} e n h =
+    let size : k ≡ w = sym (length_to_bytes k x) ∙ ap length (sym e) ∙ n in
+    ap from_bytes e ∙ ap (λ (j : ℕ). from_bytes (to_bytes j x)) size ∙ from_to_bytes w x h
+
+-- of the n bytes from a
+pub bytes_lent : (a n : ℕ) {m : ℕ} (l : List ℕ) → m ≡ n → a + n ≤ length l → from_bytes (take m (drop a l)) ≡ from_bytes (bytes_at a n l)
+unfolding bytes_at
+bytes_lent a n l e h =
+    let m = take n (drop a l) in
+    let size : length m ≡ n = length-take-le n (drop a l) (omega (arith, length-drop a l)) in
+    rw e
+    (ap from_bytes
+    (sym (rw size at (tabulate_get_or m 0))
+    ∙ tabulate_same n (λ j. get_or m j 0) (λ j. get_or l (a + j) 0) (λ j k. get_or-take n (drop a l) j 0 k ∙ get_or-drop a l j 0)))
+
+-- so of a share
+pub share_lent : (w i : ℕ) {a n : ℕ} (l : List ℕ) → a ≡ w * i → n ≡ w → w * i + w ≤ length l → from_bytes (take n (drop a l)) ≡ share_at w l i
+unfolding share_at
+share_lent w i l ea en h = rw ea (bytes_lent (w * i) w l en h)
 
 -- ---- one byte is changed
 
@@ -93,16 +132,34 @@ changed_nibble w i k v l h g r hv =
 
 -- ---- several bytes are written
 
--- a whole share
-pub changed_put : (w i x : ℕ) (l : List ℕ) → w * i + w ≤ length l → x < 2 ^ (8 * w) → Changed w i x l (paste l (w * i) (to_bytes w x) w)
-unfolding share_at
-changed_put w i x l h hx =
-    let n = length_to_bytes w x in
-    record {
-      here = number_put l (w * i) w x h hx;
-      earlier = paste_before l (w * i) (to_bytes w x) w h (omega arith);
-      later = paste_after l (w * i) (to_bytes w x) w h (omega arith);
-    }
+-- a share that was lent, and is x now
+pub changed_lent : (w i : ℕ) {a n x : ℕ} (l ys : List ℕ) → a ≡ w * i → n ≡ w → w * i + w ≤ length l → length ys ≡ w → from_bytes ys ≡ x
+    → Changed w i x l (put_mid a n l ys)
+unfolding share_at bytes_at
+changed_lent w i {a} {n} {x} l ys ea en h e ex = rw (put_mid-paste a n l ys ys n refl refl (en ∙ sym e), ea, en) changed
+  where
+    here : tabulate w (λ j. get_or (paste l (w * i) ys w) (w * i + j) 0) ≡ ys
+    here =
+        tabulate_same w (λ j. get_or (paste l (w * i) ys w) (w * i + j) 0) (λ j. get_or ys j 0) (λ j k. paste_there l (w * i) ys w h (omega arith) j k)
+        ∙ rw e at (tabulate_get_or ys 0)
+
+    changed : Changed w i x l (paste l (w * i) ys w)
+    changed =
+        record {
+          here = ap from_bytes here ∙ ex;
+          earlier = paste_before l (w * i) ys w h (omega arith);
+          later = paste_after l (w * i) ys w h (omega arith);
+        }
+
+-- byte j of the lowest w bytes of x
+unfoldable pub byte_of : ℕ → ℕ → ℕ → ℕ
+byte_of w x j = x / 2 ^ (8 * (w - 1 - j)) % 256
+
+pub bytes_of_number : (w x : ℕ) → tabulate w (byte_of w x) ≡ to_bytes w x
+unfolding byte_of
+bytes_of_number w x =
+    tabulate_same w (byte_of w x) (λ j. get_or (to_bytes w x) j 0) (λ j h. sym (get_or_to_bytes w x j h))
+    ∙ rw (length_to_bytes w x) at (tabulate_get_or (to_bytes w x) 0)
 
 -- a share as its first v bytes and the n bytes after them
 pub share_parts : (v n i : ℕ) (l : List ℕ)
@@ -110,103 +167,9 @@ pub share_parts : (v n i : ℕ) (l : List ℕ)
 unfolding share_at
 share_parts v n i l = number_parts ((v + n) * i) l v n
 
-pub changed_parts : (v n i t u : ℕ) (l : List ℕ) → (v + n) * i + (v + n) ≤ length l → t < 2 ^ (8 * v) → u < 2 ^ (8 * n)
-    → Changed (v + n) i (t * 2 ^ (8 * n) + u) l (paste (paste l ((v + n) * i) (to_bytes v t) v) ((v + n) * i + v) (to_bytes n u) n)
-changed_parts v n i t u l h ht hu =
-    let at = (v + n) * i in
-    let lt = length_to_bytes v t in
-    let lu = length_to_bytes n u in
-    let m = paste l at (to_bytes v t) v in
-    let hm = length-paste l at (to_bytes v t) v (omega arith) (omega arith) in
-    let m' = paste m (at + v) (to_bytes n u) n in
-    let first : from_bytes (bytes_at at v m') ≡ t =
-    ap from_bytes (number_same at v m m' (λ j g. paste_before m (at + v) (to_bytes n u) n (omega arith) (omega arith) (at + j) (omega arith)))
-    ∙ number_put l at v t (omega arith) ht in
-    let second : from_bytes (bytes_at (at + v) n m') ≡ u = number_put m (at + v) n u (omega arith) hu in
-    record {
-      here = share_parts v n i m' ∙ ap₂ (λ (a b : ℕ). a * 2 ^ (8 * n) + b) first second;
-      earlier = λ j f.
-          paste_before m (at + v) (to_bytes n u) n (omega arith) (omega arith) j (omega arith)
-          ∙ paste_before l at (to_bytes v t) v (omega arith) (omega arith) j f;
-      later = λ j f.
-          paste_after m (at + v) (to_bytes n u) n (omega arith) (omega arith) j (omega arith)
-          ∙ paste_after l at (to_bytes v t) v (omega arith) (omega arith) j (omega arith);
-    }
-
 -- ---- the key: its first 64 bits and the 16 after them
 
 -- the round key is the first 64 bits
 pub round_key_first : (i : ℕ) (l : List ℕ) → Small 8 l → round_key size80 (share_at 10 l i) ≡ from_bytes (bytes_at (10 * i) 8 l)
 unfolding round_key
 round_key_first i l h = ap (λ (k : ℕ). k / 2 ^ 16) (share_parts 8 2 i l) ∙ high (from_bytes (bytes_at (10 * i) 8 l)) 16 (number_lt (10 * i + 8) l h 2)
-
--- the rotation on these two parts
-pub rotated_parts : (t u : ℕ) → u < 2 ^ 16 → rotate size80 (t * 2 ^ 16 + u) ≡ (t % 8 * 2 ^ 61 + u * 2 ^ 45 + t / 2 ^ 19) * 2 ^ 16 + t / 8 % 2 ^ 16
-unfolding rotate
-rotated_parts t u h =
-    let a = t / 8 in
-    let low : (t * 2 ^ 16 + u) % 2 ^ 19 ≡ t % 8 * 2 ^ 16 + u = omega arith in
-    let high : (t * 2 ^ 16 + u) / 2 ^ 19 ≡ a = omega arith in
-    let top : t / 2 ^ 19 ≡ a / 2 ^ 16 = omega arith in
-    rw (low, high, top) (omega arith)
-
-pub rotated_lt : (t u : ℕ) → t < 2 ^ 64 → u < 2 ^ 16 → t % 8 * 2 ^ 61 + u * 2 ^ 45 + t / 2 ^ 19 < 2 ^ 64
-rotated_lt t u ht hu =
-    let first : t % 8 < 8 = omega arith in
-    let last : t / 2 ^ 19 < 2 ^ 45 = omega arith in
-    let both : u * 2 ^ 45 + t / 2 ^ 19 < 2 ^ 16 * 2 ^ 45 = digits_lt hu last in
-    omega arith
-
--- the rotation back
-pub unrotated_parts : (t u : ℕ) → u < 2 ^ 16
-    → unrotate size80 (t * 2 ^ 16 + u) ≡ (t % 2 ^ 45 * 2 ^ 19 + u * 8 + t / 2 ^ 61) * 2 ^ 16 + t / 2 ^ 45 % 2 ^ 16
-unfolding unrotate
-unrotated_parts t u h =
-    let a = t / 2 ^ 45 in
-    let low : (t * 2 ^ 16 + u) % 2 ^ 61 ≡ t % 2 ^ 45 * 2 ^ 16 + u = omega arith in
-    let high : (t * 2 ^ 16 + u) / 2 ^ 61 ≡ a = omega arith in
-    let top : t / 2 ^ 61 ≡ a / 2 ^ 16 = omega arith in
-    rw (low, high, top) (omega arith)
-
-pub unrotated_lt : (t u : ℕ) → t < 2 ^ 64 → u < 2 ^ 16 → t % 2 ^ 45 * 2 ^ 19 + u * 8 + t / 2 ^ 61 < 2 ^ 64
-unrotated_lt t u ht hu =
-    let last : t / 2 ^ 61 < 8 = omega arith in
-    rw (add_assoc (t % 2 ^ 45 * 2 ^ 19) (u * 8) (t / 2 ^ 61)) (digits_lt (mod-lt t (pow_pos 45)) (digits_lt hu last))
-
--- ---- the round number
-
--- r at bits 19 to 15: its lowest bit in one byte, the others in the next
-number_bits : (r : ℕ) → r < 32 → r % 2 * 128 * 2 ^ 8 ⊕ r / 2 * 2 ^ 16 ≡ r * 2 ^ 15
-unfolding ◌⊕◌
-number_bits = same_below 32 (λ r. r % 2 * 128 * 2 ^ 8 ⊕ r / 2 * 2 ^ 16) (λ r. r * 2 ^ 15) tt
-
-small_set : (l : List ℕ) → Small 8 l → (p c : ℕ) → c < 256 → Small 8 (set l p c)
-small_set l h p c hc i = go (ℕ_discrete i p) (dec_lt p (length l))
-  where
-    go : Dec (i ≡ p) → Dec (p < length l) → get_or (set l p c) i 0 < 256
-    go (no f) k = rw (get_or-set_other l p i c 0 f) (h i)
-    go (yes e) (yes k) = rw (e, get_or-set_same l p c 0 k) hc
-    go (yes e) (no k) = rw (set_out l p c (omega arith)) (h i)
-
-pub changed_number : (r : ℕ) (l : List ℕ) → Small 8 l → r < 32 → 10 ≤ length l
-    → Changed 10 0 (share_at 10 l 0 ⊕ round_number size80 r) l (set (set l 8 (get_or l 8 0 ⊕ r % 2 * 128)) 7 (get_or l 7 0 ⊕ r / 2))
-unfolding round_number
-changed_number r l h hr n =
-    let b = get_or l 8 0 in
-    let d = get_or l 7 0 in
-    let m = set l 8 (b ⊕ r % 2 * 128) in
-    let hb : b ⊕ r % 2 * 128 < 256 = ⊕-lt 8 (h 8) (omega arith) in
-    let hd : d ⊕ r / 2 < 256 = ⊕-lt 8 (h 7) (omega arith) in
-    let first = changed_set 10 0 8 l h (omega arith) (omega arith) (b ⊕ r % 2 * 128) hb in
-    let second = changed_set 10 0 7 m (small_set l h 8 _ hb) (omega arith) (simp length-set (omega arith)) (d ⊕ r / 2) hd in
-    let same : get_or m 7 0 ≡ d = get_or-set_other l 8 7 (b ⊕ r % 2 * 128) 0 (λ e. omega arith) in
-    let both = changed_then first second in
-    record {
-      here = both.here
-          ∙ ap₂ ◌⊕◌ (first.here ∙ ap (λ (a : ℕ). share_at 10 l 0 ⊕ a * 2 ^ 8) (⊕-cancel b (r % 2 * 128)))
-          (ap (λ (a : ℕ). (a ⊕ (d ⊕ r / 2)) * 2 ^ 16) same ∙ ap (λ (a : ℕ). a * 2 ^ 16) (⊕-cancel d (r / 2)))
-          ∙ ⊕-assoc (share_at 10 l 0) (r % 2 * 128 * 2 ^ 8) (r / 2 * 2 ^ 16)
-          ∙ ap (λ (a : ℕ). share_at 10 l 0 ⊕ a) (number_bits r hr);
-      earlier = both.earlier;
-      later = both.later;
-    }

@@ -2,12 +2,10 @@
 #![tactic(auto)]
 
 pub mod bytes;
+pub mod key;
 pub mod permutation;
 pub mod share;
 pub mod shares;
 
-pub use share::nibble;
-pub use shares::{
-    add_round_keys, add_round_number, column, copy, permute_shares, replace_column, rotate_keys,
-    store, unpermute_shares, unrotate_keys,
-};
+pub use share::{InversePermutation, InverseRotation, Permutation, Rotation, ShareMap, nibble};
+pub use shares::{add_round_keys, add_round_number, column, map_shares, replace_column, store};

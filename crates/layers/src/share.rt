@@ -1,12 +1,125 @@
 // One share of a block or of a key: its nibbles, and the parts of a round on it.
-ghost use Rattle.std.specs.Prelude.{◌≡◌, ◌+◌, ◌*◌, ◌<◌, ◌≤◌, length};
+ghost use Rattle.std.specs.Prelude.{◌≡◌, ℕ, ◌+◌, ◌*◌, ◌<◌, ◌≤◌, length};
 ghost use Rattle.xor.specs.Xor.{◌⊕◌};
 ghost use Rattle.present.specs.Present as present;
 ghost use Rattle.present.specs.Decrypt as decryption;
+ghost use Rattle.present.proofs.Numbers.{permute_linear, unpermute_linear, rotate_linear, unrotate_linear, sound80};
+ghost use Rattle.steps.specs.Bytes.{from_bytes};
+ghost use Rattle.steps.specs.Linear.{Linear};
 ghost use Rattle.steps.specs.ShareBytes.{share_at, Changed};
 
 use crate::bytes::{number, put_number};
+use crate::key::Key;
 use crate::permutation::{permute, unpermute};
+
+// A linear map on the shares of a block or of a key.
+pub trait ShareMap {
+    ghost BYTES: { ℕ };
+
+    // How many bytes a share has.
+    const BYTES: usize;
+
+    // What becomes of the number that a share is.
+    ghost image: { ℕ → ℕ };
+
+    // Puts the share in these bytes through the map.
+    fn apply(share: &mut [u8])
+        requires { length share.old ≡ BYTES }
+        ensures { from_bytes share.new ≡ image (from_bytes share.old) };
+
+    ghost linear: { Linear (8 * BYTES) (8 * BYTES) image };
+}
+
+// The permutation of a block.
+pub struct Permutation;
+
+impl ShareMap for Permutation {
+    ghost BYTES = { 8 };
+
+    const BYTES: usize = 8;
+
+    ghost image = { present.permute };
+
+    ghost linear = { permute_linear };
+
+    fn apply(share: &mut [u8]) {
+        let x = number(share);
+        put_number(share, permute(x));
+    }
+}
+
+// The inverse permutation.
+pub struct InversePermutation;
+
+impl ShareMap for InversePermutation {
+    ghost BYTES = { 8 };
+
+    const BYTES: usize = 8;
+
+    ghost image = { decryption.unpermute };
+
+    ghost linear = { unpermute_linear };
+
+    fn apply(share: &mut [u8]) {
+        let x = number(share);
+        put_number(share, unpermute(x));
+    }
+}
+
+// The rotation of a key left by 61.
+pub struct Rotation;
+
+impl ShareMap for Rotation {
+    ghost BYTES = { 10 };
+
+    const BYTES: usize = 10;
+
+    ghost image = { present.rotate present.size80 };
+
+    ghost linear = { rotate_linear present.size80 sound80 };
+
+    fn apply(share: &mut [u8]) {
+        Key::load(share).rotate().store(share);
+    }
+}
+
+// The rotation of a key right by 61.
+pub struct InverseRotation;
+
+impl ShareMap for InverseRotation {
+    ghost BYTES = { 10 };
+
+    const BYTES: usize = 10;
+
+    ghost image = { decryption.unrotate present.size80 };
+
+    ghost linear = { unrotate_linear present.size80 sound80 };
+
+    fn apply(share: &mut [u8]) {
+        Key::load(share).unrotate().store(share);
+    }
+}
+
+// Puts share i through a map.
+pub fn map_share<M: ShareMap>(i: usize, l: &mut [u8])
+    requires { M.BYTES * i + M.BYTES ≤ length l.old }
+    ensures { Changed M.BYTES i (M.image (share_at M.BYTES l.old i)) l.old l.new }
+{
+    let at = M::BYTES * i;
+    M::apply(&mut l[at..at + M::BYTES]);
+}
+
+// Adds the round key of share i of a key to share i of a block.
+pub fn add_share(i: usize, key: &[u8], block: &mut [u8])
+    requires { (10 * i + 10 ≤ length key.now) × (8 * i + 8 ≤ length block.old) }
+    ensures { Changed 8 i (present.round_key present.size80 (share_at 10 key.now i) ⊕ share_at 8 block.old i)
+        block.old block.new }
+{
+    let round_key = number(&key[10 * i..10 * i + 8]);
+    let share = &mut block[8 * i..8 * i + 8];
+    let x = number(share);
+    put_number(share, round_key ^ x);
+}
 
 // Nibble k of share i, of w bytes.
 pub fn nibble(w: usize, i: usize, k: usize, l: &[u8]) -> u8
@@ -29,79 +142,11 @@ pub fn replace(w: usize, i: usize, k: usize, v: u8, l: &mut [u8])
     l[at] = b ^ (d << shift);
 }
 
-// Permutes share i of a block.
-pub fn permute_share(i: usize, block: &mut [u8])
-    requires { 8 * i + 8 ≤ length block.old }
-    ensures { Changed 8 i (present.permute (share_at 8 block.old i)) block.old block.new }
-{
-    let at = 8 * i;
-    let x = number(block, at, 8);
-    put_number(block, at, 8, permute(x));
-}
-
-// Permutes share i of a block back.
-pub fn unpermute_share(i: usize, block: &mut [u8])
-    requires { 8 * i + 8 ≤ length block.old }
-    ensures { Changed 8 i (decryption.unpermute (share_at 8 block.old i)) block.old block.new }
-{
-    let at = 8 * i;
-    let x = number(block, at, 8);
-    put_number(block, at, 8, unpermute(x));
-}
-
-// Adds the round key of share i of a key to share i of a block.
-pub fn add_share(i: usize, key: &[u8], block: &mut [u8])
-    requires { (10 * i + 10 ≤ length key.now) × (8 * i + 8 ≤ length block.old) }
-    ensures { Changed 8 i (present.round_key present.size80 (share_at 10 key.now i) ⊕ share_at 8 block.old i)
-        block.old block.new }
-{
-    let at = 8 * i;
-    let k = number(key, 10 * i, 8);
-    let x = number(block, at, 8);
-    put_number(block, at, 8, k ^ x);
-}
-
-// Rotates share i of a key left by 61. Its first 64 bits are t, its last 16 are u.
-pub fn rotate_share(i: usize, key: &mut [u8])
-    requires { 10 * i + 10 ≤ length key.old }
-    ensures { Changed 10 i (present.rotate present.size80 (share_at 10 key.old i)) key.old key.new }
-{
-    let at = 10 * i;
-    let t = number(key, at, 8);
-    let u = number(key, at + 8, 2);
-    put_number(
-        key,
-        at,
-        8,
-        t % 8 * 0x2000000000000000 + u * 0x200000000000 + t / 0x80000,
-    );
-    put_number(key, at + 8, 2, t / 8 % 0x10000);
-}
-
-// Rotates share i of a key right by 61. Its first 64 bits are t, its last 16 are u.
-pub fn unrotate_share(i: usize, key: &mut [u8])
-    requires { 10 * i + 10 ≤ length key.old }
-    ensures { Changed 10 i (decryption.unrotate present.size80 (share_at 10 key.old i)) key.old key.new }
-{
-    let at = 10 * i;
-    let t = number(key, at, 8);
-    let u = number(key, at + 8, 2);
-    put_number(
-        key,
-        at,
-        8,
-        t % 0x200000000000 * 0x80000 + u * 8 + t / 0x2000000000000000,
-    );
-    put_number(key, at + 8, 2, t / 0x200000000000 % 0x10000);
-}
-
-// Adds the round number r to share 0 of a key, at bits 19 to 15.
+// Adds the round number r to share 0 of a key.
 pub fn add_number(r: u8, key: &mut [u8])
     requires { (r < 32) × (10 ≤ length key.old) }
     ensures { Changed 10 0 (share_at 10 key.old 0 ⊕ present.round_number present.size80 r) key.old key.new }
 {
-    let low = key[8] ^ (r % 2 * 128);
-    let high = key[7] ^ (r / 2);
-    key[8] = low;
-    key[7] = high;
+    let share = &mut key[..10];
+    Key::load(share).add_number(u16::from(r)).store(share);
 }

@@ -1,32 +1,23 @@
 -- The bits of numbers: their sums, and a number put together from bits.
 use mathlib.Core.Logic.{◌⊎◌, inl, inr}
-use mathlib.Core.Path.{◌≡◌, refl, sym, ap, ap₂, ◌∙◌}
+use mathlib.Core.Path.{◌≡◌, sym, ap, ap₂, ◌∙◌}
 use Prim.Native.Nat.{ℕ, zero, suc, ◌+◌, ◌-◌, ◌*◌, ◌/◌, ◌%◌, ◌^◌, ◌<◌}
 use native.Mathlib.Decide.{ℕ_discrete, dec_lt}
-use native.Mathlib.Nat.{mod-lt, mod-eq_of_lt, zero-div, zero-mod, zero-lt-suc, le_refl, div-lt_iff_lt-mul, div-eq_of_lt, lt_of_lt_of_le, zero-mul, one-mul, mul-zero, mul-one, mul_comm, mul_assoc, mul-mod_left}
+use native.Mathlib.Nat.{mod-lt, mod-eq_of_lt, zero-mod, zero-lt-suc, le_refl, div-lt_iff_lt-mul, div-eq_of_lt, lt_of_lt_of_le, zero-mul, one-mul, mul-mod_left}
 use native.Mathlib.Omega.{arith}
 use lib.Pow.{pow_pos, pow_mono, split, high, low, field, mod-mod-pow, shl_lt, shl-shr}
 use Rattle.xor.specs.Xor.{◌⊕◌}
-use Rattle.xor.proofs.Xor.{⊕-assoc, ⊕-comm, ⊕-zero, ⊕-self, ⊕-lt, ⊕-odd, ⊕-shr, bit_cases}
-use Rattle.field.proofs.Bilinear as bilinear
+use Rattle.xor.proofs.Xor.{⊕-odd, ⊕-shr, bit_cases}
 use Rattle.linear.specs.Bits.{bit, bits}
+pub use Rattle.linear.specs.Laws.{bit_laws, bit_lt, bit_zero}
 use Rattle.linear.specs.Row.{RowElements}
-use Rattle.linear.specs.Scalars.{ScalarLaws}
 use Rattle.linear.proofs.Row.{small_shorter}
 
 -- ---- the bits of a number
 
-pub bit_lt : (i a : ℕ) → bit i a < 2
-unfolding bit
-bit_lt i a = bilinear.odd_lt (a / 2 ^ i)
-
 pub bit_sum : (i a b : ℕ) → bit i (a ⊕ b) ≡ bit i a ⊕ bit i b
 unfolding bit
 bit_sum i a b = ap (λ (x : ℕ). x % 2) (⊕-shr a b i) ∙ ⊕-odd (a / 2 ^ i) (b / 2 ^ i)
-
-pub bit_zero : (i : ℕ) → bit i 0 ≡ 0
-unfolding bit
-bit_zero i = ap (λ (x : ℕ). x % 2) (zero-div (2 ^ i)) ∙ zero-mod 2
 
 -- the top bit of a number below 2 ^ (k + 1)
 bit_top : (k a : ℕ) → a < 2 ^ suc k → bit k a ≡ a / 2 ^ k
@@ -93,27 +84,3 @@ together_bit (suc k) d s i l =
           sym (bit_low k i (d k * 2 ^ k + together k d) (omega arith)) ∙ ap (bit i) (low (d k) k r)
           ∙ together_bit k d s' i (omega arith)
     ]
-
--- ---- the laws of the field of two elements
-
-pub bit_laws : ScalarLaws bits
-bit_laws = record {
-  one_below = le_refl 2;
-  add_below = λ h g. ⊕-lt 1 h g;
-  mul_below = λ {a} {b} h g. bilinear.bit_lt 1 a b h g;
-  inv_below = λ h. h;
-  add_zero = ⊕-zero;
-  add_self = ⊕-self;
-  add_comm = ⊕-comm;
-  add_assoc = ⊕-assoc;
-  mul_comm = λ {a} {b} h g. mul_comm a b;
-  mul_assoc = λ {a} {b} {c} ha hb hc. mul_assoc a b c;
-  mul_add = λ {a} {b} {c} ha hb hc. mul_comm a (b ⊕ c) ∙ bilinear.⊕-bit b c a hb hc ∙ ap₂ ◌⊕◌ (mul_comm b a) (mul_comm c a);
-  mul_one = λ {a} h. mul-one a;
-  mul_zero = λ {a} h. mul-zero a;
-  mul_inv = λ {a} h nz. unit (bit_cases a h) nz;
-}
-  where
-    unit : {a : ℕ} → (a ≡ 0) ⊎ (a ≡ 1) → (a ≡ 0 → ⊥) → a * a ≡ 1
-    unit {a} (inl e) nz = absurd (nz e)
-    unit {a} (inr e) nz = rw e refl

@@ -6,8 +6,11 @@ use Prim.Native.Nat.{ℕ, ◌+◌, ◌*◌, ◌≤◌, ◌<◌}
 use native.Mathlib.Decide.{ℕ_discrete, dec_lt}
 use native.Mathlib.Nat.{le_refl, suc-mul, mul-le-mul_right}
 use native.Mathlib.Omega.{arith}
-use lib.ListN.{length, set}
+use lib.ListN.{get_or, length, set}
 use lib.Seq.{get_or-set_same, get_or-set_other}
+use borrow.Rule.Slice.PartMut.{put_mid}
+use Rattle.std.proofs.Common.{rules}
+use Rattle.std.proofs.lemmas.List.{places}
 use Rattle.linear.specs.Buffer.{Overwritten, Written, bytes, in_rows}
 use Rattle.linear.specs.Row.{Agree}
 
@@ -25,6 +28,11 @@ overwritten_more {f₀} {a} {k} {v} l u b x e = record {
   low = λ j h. get_or-set_other l (a + k) j x 0 (λ z. omega arith) ∙ u.low j h;
   high = λ j h. get_or-set_other l (a + k) j x 0 (λ z. omega arith) ∙ u.high j (omega arith);
 }
+
+-- the same from the start on
+pub overwritten_next : {f₀ : ℕ → ℕ} {k : ℕ} {v : ℕ → ℕ} (l : List ℕ) → Written f₀ (bytes l) 0 k v → k < length l → (x : ℕ) → x ≡ v k
+    → Written f₀ (bytes (set l k x)) 0 (k + 1) v
+overwritten_next {k = k} l u b x e = let z : 0 + k ≡ k = omega arith in rw z at (overwritten_more l u (omega arith) x e)
 
 -- the same values by another name
 pub overwritten_values : {f₀ f : ℕ → ℕ} {a k : ℕ} {v v' : ℕ → ℕ} → Written f₀ f a k v → ((j : ℕ) → j < k → v j ≡ v' j) → Written f₀ f a k v'
@@ -54,3 +62,18 @@ overwritten_other w i j u n =
 
 pub overwritten_row : {f₀ f v : ℕ → ℕ} (w i : ℕ) → Written f₀ f (i * w) w v → Agree w (in_rows w f i) v
 overwritten_row w i u = record { at = u.new }
+
+-- ---- a part of a buffer
+
+-- the k bytes from a on are lent and written
+pub part_written : {v : ℕ → ℕ} (a k : ℕ) (l p : List ℕ) → a + k ≤ length l → length p ≡ k → Agree k (bytes p) v → Overwritten l (put_mid a k l p) a k v
+part_written {v} a k l p room e ag = record { new = λ j h. new j h ∙ ag.at j h; low = low; high = high }
+  where
+    new : (j : ℕ) → j < k → get_or (put_mid a k l p) (a + j) 0 ≡ get_or p j 0
+    new j h = search (rules, places)
+
+    low : (j : ℕ) → j < a → get_or (put_mid a k l p) j 0 ≡ get_or l j 0
+    low j h = search (rules, places)
+
+    high : (j : ℕ) → a + k ≤ j → get_or (put_mid a k l p) j 0 ≡ get_or l j 0
+    high j h = search (rules, places)

@@ -1,14 +1,14 @@
 -- The elimination carried out on matrices as functions: linear equations have a canonical solution, or none at all.
 use mathlib.Core.Bool.{cond}
-use mathlib.Core.Logic.{◌⊎◌, inl, inr}
+use mathlib.Core.Logic.{◌⊎◌, inl, inr, ⊎_elim}
 use mathlib.Core.Path.{◌≡◌, refl, ap}
 use Prim.Native.Nat.{ℕ, zero, suc, ◌+◌, ◌≤◌, ◌<◌, ◌-◌}
-use native.Mathlib.Decide.{ℕ_discrete, dec_lt}
+use native.Mathlib.Decide.{ℕ_discrete}
 use native.Mathlib.Nat.{le_refl}
 use native.Mathlib.Omega.{arith}
 use lib.Dec.{eqb}
 use borrow.Author.Tests.{eq-eqb, ne_eqb}
-use Rattle.linear.specs.Elimination.{Cleared, Eliminated, LeadingAt, Pivot, Reduced, RowAdded}
+use Rattle.linear.specs.Elimination.{Cleared, Eliminated, LeadingAt, Pivot, Reduced, RowAdded, ZerosFrom}
 use Rattle.linear.specs.Row.{Agree, plus, times}
 use Rattle.linear.specs.Scalars.{ScalarLaws, Scalars}
 use Rattle.linear.specs.System.{Canonical, Elements, Inconsistent}
@@ -16,18 +16,19 @@ use Rattle.linear.proofs.ReadOff.{find_row, leading_apart, read_off_canonical, r
 use Rattle.linear.proofs.RowOperations.{Scaled}
 use Rattle.linear.proofs.Steps.{eliminated_start, step_cleared, step_none, step_pivot_added, step_scaled}
 
--- the pivot of a column is found row by row: the rows from r to t have zeros there, and k rows are left
-find_pivot : (m c r : ℕ) (M : ℕ → ℕ → ℕ) (t k : ℕ) → r ≤ t → t + k ≡ m → ((i : ℕ) → r ≤ i → i < t → M i c ≡ 0) → (p : ℕ) × Pivot m c r p M
-find_pivot m c r M t zero rt e z = (t, record { after = rt; within = omega arith; skipped = z; found = λ l. absurd (omega arith) })
+-- the pivot of a column is found row by row, or there is none: the rows from r to t have zeros there, and k rows are left
+find_pivot : (m c r : ℕ) (M : ℕ → ℕ → ℕ) (t k : ℕ) → r ≤ t → t + k ≡ m → ((i : ℕ) → r ≤ i → i < t → M i c ≡ 0)
+    → ((p : ℕ) × Pivot m c r p M) ⊎ ZerosFrom m c r M
+find_pivot m c r M t zero rt e z = inr (λ i a b. z i a (omega arith))
 find_pivot m c r M t (suc k) rt e z = elim (ℕ_discrete (M t c) 0) [
   | yes q ↦
       find_pivot m c r M (suc t) k (omega arith) (omega arith)
       (λ i a b. elim (ℕ_discrete i t) [ yes w ↦ rw w q | no n ↦ z i a (omega arith) ])
-  | no n ↦ (t, record { after = rt; within = omega arith; skipped = z; found = λ l. n })
+  | no n ↦ inl (t, record { after = rt; within = omega arith; skipped = z; found = n })
 ]
 
-pub pivot_exists : (m c r : ℕ) (M : ℕ → ℕ → ℕ) → r ≤ m → (p : ℕ) × Pivot m c r p M
-pivot_exists m c r M h = find_pivot m c r M r (m - r) (le_refl r) (omega arith) (λ i a b. absurd (omega arith))
+pub pivot_or_none : (m c r : ℕ) (M : ℕ → ℕ → ℕ) → r ≤ m → ((p : ℕ) × Pivot m c r p M) ⊎ ZerosFrom m c r M
+pivot_or_none m c r M h = find_pivot m c r M r (m - r) (le_refl r) (omega arith) (λ i a b. absurd (omega arith))
 
 -- the matrix with another row in the place of row r
 replaced : ℕ → (ℕ → ℕ) → (ℕ → ℕ → ℕ) → ℕ → ℕ → ℕ
@@ -72,20 +73,17 @@ module _ {S : Scalars} (F : ScalarLaws S) (m w : ℕ) where
   -- one column more
   column : (c r : ℕ) (M₀ M : ℕ → ℕ → ℕ) → c < w → Eliminated S m w M₀ M c r
       → (N : ℕ → ℕ → ℕ) × (s : ℕ) × Eliminated S m w M₀ N (suc c) s
-  column c r M₀ M cw h =
-      let pv = pivot_exists m c r M h.reduced.rank in
-      let p = pv.0 in
-      elim (dec_lt p m) [
-        | yes pm ↦
-            let rm : r < m = omega (arith, pv.1.after) in
-            let a = pivot_added r p M in
-            let x = step_pivot_added F m w c r p M₀ M cw h pv.1 pm a.0 a.1 in
-            let b = scaled r (S.inv (a.0 r c)) a.0 in
-            let y = step_scaled F m w c r (S.inv (a.0 r c)) M₀ a.0 b.0 cw rm x.0 x.1 refl b.1 in
-            let d = cleared c r b.0 in
-            (d.0, suc r, step_cleared F m w c r M₀ b.0 d.0 cw rm y.0 y.1 d.1)
-        | no g ↦ (M, r, step_none F m w c r p M₀ M cw h pv.1 (omega arith))
-      ]
+  column c r M₀ M cw h = ⊎_elim
+      (λ pv. let p = pv.0 in
+      let rm : r < m = omega (arith, pv.1.after, pv.1.within) in
+      let a = pivot_added r p M in
+      let x = step_pivot_added F m w c r p M₀ M cw h pv.1 a.0 a.1 in
+      let b = scaled r (S.inv (a.0 r c)) a.0 in
+      let y = step_scaled F m w c r (S.inv (a.0 r c)) M₀ a.0 b.0 cw rm x.0 x.1 refl b.1 in
+      let d = cleared c r b.0 in
+      (d.0, suc r, step_cleared F m w c r M₀ b.0 d.0 cw rm y.0 y.1 d.1))
+      (λ z. (M, r, step_none F h z))
+      (pivot_or_none m c r M h.reduced.rank)
 
   -- every matrix is reduced by the elimination
   pub eliminated_exists : (M : ℕ → ℕ → ℕ) → Elements S m w M → (c : ℕ) → c ≤ w → (N : ℕ → ℕ → ℕ) × (r : ℕ) × Eliminated S m w M N c r
@@ -119,15 +117,14 @@ canonical_or_inconsistent {S} F m u M el =
     let N = e.0 in
     let r = e.1 in
     let h = e.2 in
-    let v = pivot_exists m u r N h.reduced.rank in
-    elim (dec_lt v.0 m) [
-      | yes l ↦ inr (read_off_none F m u (suc u) r (le_refl (suc u)) M N h v.0 v.1.after l (v.1.found l))
-      | no g ↦ inl (
-        (λ k. (unknown h.reduced u k).0),
-        read_off_canonical F m u (suc u) r (le_refl (suc u)) M N h (λ i a b. v.1.skipped i a (omega arith)) (λ k. (unknown h.reduced u k).0)
-            (record {
-              lead = λ i k l b f. (unknown h.reduced u k).1.0 i l f;
-              none = λ k b z. (unknown h.reduced u k).1.1 z;
-            }),
-      )
-    ]
+    ⊎_elim
+    (λ v. inr (read_off_none F m u (suc u) r (le_refl (suc u)) M N h v.0 v.1.after v.1.within v.1.found))
+    (λ z. inl (
+      (λ k. (unknown h.reduced u k).0),
+      read_off_canonical F m u (suc u) r (le_refl (suc u)) M N h z (λ k. (unknown h.reduced u k).0)
+          (record {
+            lead = λ i k l b f. (unknown h.reduced u k).1.0 i l f;
+            none = λ k b z. (unknown h.reduced u k).1.1 z;
+          }),
+    ))
+    (pivot_or_none m u r N h.reduced.rank)

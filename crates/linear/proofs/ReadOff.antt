@@ -6,7 +6,8 @@ use Prim.Native.Nat.{ℕ, zero, suc, ◌≤◌, ◌<◌}
 use native.Mathlib.Decide.{ℕ_discrete, dec_lt}
 use native.Mathlib.Nat.{le_refl}
 use native.Mathlib.Omega.{arith}
-use Rattle.linear.specs.Elimination.{LeadingOne, Reduced, Eliminated, FirstNonzero, LeadingAt, ReadOff}
+use Rattle.std.proofs.Common.{Option, None, Some, MatchOption}
+use Rattle.linear.specs.Elimination.{LeadingOne, Reduced, Eliminated, LeadingAt, ReadOff, ZerosBefore}
 use Rattle.linear.specs.Row.{RowElements, dot}
 use Rattle.linear.specs.Scalars.{Scalars, ScalarLaws}
 use Rattle.linear.specs.System.{Combination, Free, Canonical, Inconsistent}
@@ -22,14 +23,18 @@ leading_one_at : {m c i : ℕ} {M : ℕ → ℕ → ℕ} (o : LeadingOne m M c i
 leading_one_at o = record { before = o.before; here = λ z. let e : ◌≡◌ {A = ℕ} 1 0 = sym o.one ∙ z in omega arith }
 
 -- a row below the rank has one
-pub first_nonzero_leading : {m c r i k : ℕ} {M : ℕ → ℕ → ℕ} → Reduced m M c r → i < r → FirstNonzero c i k M → (k < c) × LeadingAt M i k
-first_nonzero_leading {c = c} {k = k} h l e =
+pub leading_exists : {m c r i : ℕ} {M : ℕ → ℕ → ℕ} → Reduced m M c r → i < r → ZerosBefore M i c → ⊥
+leading_exists h l z =
     let o = h.leading _ l in
-    let b : k < c = elim (dec_lt k c) [
-      | yes g ↦ g
-      | no g ↦ let z : ◌≡◌ {A = ℕ} 1 0 = sym o.one ∙ e.before o.at (omega (arith, o.below)) in absurd (omega arith)
-    ] in
-    (b, record { before = e.before; here = e.here b })
+    let e : ◌≡◌ {A = ℕ} 1 0 = sym o.one ∙ z o.at o.below in
+    omega arith
+
+-- what a search along row i finds
+pub leading_found : (u i : ℕ) (M : ℕ → ℕ → ℕ) (k : Option ℕ)
+    → MatchOption k ((j : ℕ) → 0 ≤ j → j < u → M i j ≡ 0) (λ j. (0 ≤ j) × (j < u) × (M i j ≡ 0 → ⊥) × ((h : ℕ) → 0 ≤ h → h < j → M i h ≡ 0))
+    → MatchOption k (ZerosBefore M i u) (λ j. (j < u) × LeadingAt M i j)
+leading_found u i M None h = λ j l. h j (omega arith) l
+leading_found u i M (Some j) h = (h.1, record { before = λ k l. h.3 k (omega arith) l; here = h.2 })
 
 -- two rows below the rank lead at different columns
 pub leading_apart : {m c r : ℕ} {M : ℕ → ℕ → ℕ} → Reduced m M c r → (i j k : ℕ) → i < r → j < r → (j ≡ i → ⊥) → LeadingAt M i k → LeadingAt M j k → ⊥

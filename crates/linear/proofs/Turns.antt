@@ -1,5 +1,5 @@
 -- The turns of the loops: what one turn does to the matrix in a memory.
-use mathlib.Core.Path.{◌≡◌, refl, sym, ap₂, ◌∙◌}
+use mathlib.Core.Path.{◌≡◌, refl, sym, ap, ap₂, ◌∙◌}
 use Prim.Native.Nat.{ℕ, ◌+◌, ◌*◌, ◌<◌}
 use native.Mathlib.Decide.{ℕ_discrete}
 use native.Mathlib.Nat.{le_refl}
@@ -8,13 +8,19 @@ use Rattle.linear.specs.Buffer.{in_rows, Written}
 use Rattle.linear.specs.Elimination.{RowAdded, Cleared}
 use Rattle.linear.specs.Row.{Agree, plus, times}
 use Rattle.linear.specs.Scalars.{Scalars}
-use Rattle.linear.proofs.Buffer.{overwritten_row, overwritten_other}
+use Rattle.linear.specs.System.{Elements}
+use Rattle.linear.proofs.Buffer.{overwritten_other, overwritten_row, overwritten_values}
 use Rattle.linear.proofs.RowOperations.{Scaled}
 
 -- row r takes up a multiple of row p
 pub added_row : {S : Scalars} {f₀ f : ℕ → ℕ} (m w x r p : ℕ) → (p ≡ r → ⊥)
     → Written f₀ f (r * w) w (plus S (in_rows w f₀ r) (times S x (in_rows w f₀ p))) → RowAdded S m w x r p (in_rows w f₀) (in_rows w f)
 added_row m w x r p n u = record { row = λ _. overwritten_row w r u; itself = λ e. absurd (n e); others = λ i l g. overwritten_other w r i u g }
+
+-- the same, by values that agree with the multiple
+pub added_multiple : {S : Scalars} {f₀ f v : ℕ → ℕ} (m w x r p : ℕ) → (p ≡ r → ⊥) → Agree w v (times S x (in_rows w f₀ p))
+    → Written f₀ f (r * w) w (plus S (in_rows w f₀ r) v) → RowAdded S m w x r p (in_rows w f₀) (in_rows w f)
+added_multiple {S} {f₀} m w x r p n a u = added_row m w x r p n (overwritten_values u (λ k h. ap (S.add (in_rows w f₀ r k)) (a.at k h)))
 
 -- row p itself is passed over
 pub added_itself : {S : Scalars} {x r p : ℕ} (m w : ℕ) (M : ℕ → ℕ → ℕ) → p ≡ r → RowAdded S m w x r p M M
@@ -46,3 +52,7 @@ cleared_more {S} {m} {w} {c} {r} {i} {M} {N} {O} cw im rm x u = record {
   where
     same : Agree w (N i) (M i)
     same = x.rest i (le_refl i) im
+
+-- a row whose turn it is has the entries that it had at first
+pub entry_before : {S : Scalars} {m w c r i : ℕ} {M N : ℕ → ℕ → ℕ} → Elements S m w M → i < m → c < w → Cleared S m w c r i M N → N i c < S.size
+entry_before {i = i} el im cw x = rw ((x.rest i (le_refl i) im).at _ cw) ((el.at i im).at _ cw)

@@ -1,8 +1,6 @@
 -- For inner contracts only. A matrix in a memory of entries: rows of w entries, one after the other. The memory is a buffer of bytes, or the bits
 -- that such a buffer holds (Packed).
-use Rattle.std.specs.Prelude.{Bool, true, false, List, ◌≡◌, ℕ, ◌+◌, ◌*◌, ◌≤◌, ◌<◌, length, get_or}
-use Rattle.linear.specs.Scalars.{Scalars}
-use Rattle.linear.specs.System.{Elements, Canonical, Inconsistent}
+use Rattle.std.specs.Prelude.{List, ◌≡◌, ℕ, ◌+◌, ◌*◌, ◌≤◌, ◌<◌, get_or}
 
 -- a memory as rows of w entries: the entry of row i at column k
 abbrev pub in_rows : ℕ → (ℕ → ℕ) → ℕ → ℕ → ℕ
@@ -20,11 +18,6 @@ cell w l = in_rows w (bytes l)
 abbrev pub from : List ℕ → ℕ → ℕ → ℕ
 from l a k = get_or l (a + k) 0
 
--- a buffer that holds a matrix of m rows and w columns of elements
-pub record Grid (S : Scalars) (l : List ℕ) (m w : ℕ) : Type 0 where
-  pub room : m * w ≤ length l
-  pub elements : Elements S m w (cell w l)
-
 -- the memory f is f₀ with v 0 to v (k - 1) written from a on
 pub record Written (f₀ f : ℕ → ℕ) (a k : ℕ) (v : ℕ → ℕ) : Type 0 where
   pub new : (j : ℕ) → j < k → f (a + j) ≡ v j
@@ -34,8 +27,3 @@ pub record Written (f₀ f : ℕ → ℕ) (a k : ℕ) (v : ℕ → ℕ) : Type 0
 -- the same of bytes: l is l₀ with v 0 to v (k - 1) written from a on
 abbrev pub Overwritten : List ℕ → List ℕ → ℕ → ℕ → (ℕ → ℕ) → Type 0
 Overwritten l₀ l = Written (bytes l₀) (bytes l)
-
--- the answer for m equations in u unknowns. true: the canonical solution is written. false: there is no solution, and nothing is written
-abbrev pub Solved : Scalars → ℕ → ℕ → (ℕ → ℕ → ℕ) → List ℕ → List ℕ → Bool → Type 0
-Solved S m u M out out' true = Canonical S m M u (λ k. get_or out' k 0)
-Solved S m u M out out' false = Inconsistent S m M u × (out' ≡ out)

@@ -38,12 +38,16 @@ pub record Reducing (S : Scalars) (m w : ℕ) (M N : ℕ → ℕ → ℕ) (c : �
 
 -- ---- the steps for one column
 
--- p is the first row from r on that is not zero in column c, or m if there is none
+-- p is the first row from r on that is not zero in column c
 pub record Pivot (m c r p : ℕ) (M : ℕ → ℕ → ℕ) : Type 0 where
   pub after : r ≤ p
-  pub within : p ≤ m
+  pub within : p < m
   pub skipped : (i : ℕ) → r ≤ i → i < p → M i c ≡ 0
-  pub found : p < m → M p c ≡ 0 → ⊥
+  pub found : M p c ≡ 0 → ⊥
+
+-- there is none: the rows from r on are zero in column c
+abbrev pub ZerosFrom : ℕ → ℕ → ℕ → (ℕ → ℕ → ℕ) → Type 0
+ZerosFrom m c r M = (i : ℕ) → r ≤ i → i < m → M i c ≡ 0
 
 -- row r has f times row p added to it, unless it is row p itself; the others are as they were
 pub record RowAdded (S : Scalars) (m w f r p : ℕ) (M N : ℕ → ℕ → ℕ) : Type 0 where
@@ -64,11 +68,9 @@ pub record LeadingAt (M : ℕ → ℕ → ℕ) (i k : ℕ) : Type 0 where
   pub before : (j : ℕ) → j < k → M i j ≡ 0
   pub here : M i k ≡ 0 → ⊥
 
--- k is the first column below u in which row i is not zero, or u if there is none
-pub record FirstNonzero (u i k : ℕ) (M : ℕ → ℕ → ℕ) : Type 0 where
-  pub within : k ≤ u
-  pub before : (j : ℕ) → j < k → M i j ≡ 0
-  pub here : k < u → M i k ≡ 0 → ⊥
+-- row i is zero in the columns before u: no entry leads it there
+abbrev pub ZerosBefore : (ℕ → ℕ → ℕ) → ℕ → ℕ → Type 0
+ZerosBefore M i u = (j : ℕ) → j < u → M i j ≡ 0
 
 -- the unknowns p are read off the right side, column u, of the rows below r; an unknown that leads none of these rows is 0
 pub record ReadOff (M : ℕ → ℕ → ℕ) (u r : ℕ) (p : ℕ → ℕ) : Type 0 where

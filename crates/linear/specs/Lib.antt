@@ -5,3 +5,5 @@ pub mod Bits
 pub mod Elimination
 pub mod Buffer
 pub mod Packed
+pub mod Shape
+pub mod Laws

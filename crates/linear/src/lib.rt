@@ -2,14 +2,16 @@
 // The augmented matrix lies row after row; its last column is the right side. Over the field of two elements a byte holds eight entries.
 #![tactic(auto)]
 
-mod bit_eliminating;
-pub mod bit_solving;
+pub mod bit_matrix;
+pub mod element_matrix;
 mod eliminating;
+pub mod matrix;
 pub mod packing;
-pub mod rows;
+mod reading_off;
+mod rows;
 pub mod solving;
 
-pub use bit_solving::solve_bits;
+pub use bit_matrix::BitMatrix;
+pub use element_matrix::ElementMatrix;
 pub use packing::put_bit;
-pub use rows::zero;
 pub use solving::solve;

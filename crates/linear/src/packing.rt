@@ -2,10 +2,8 @@
 // elements are written.
 ghost use Rattle.std.specs.Prelude.{◌≡◌, ◌+◌, ◌*◌, ◌/◌, ◌<◌, ◌≤◌, length};
 ghost use Rattle.xor.specs.Sum.{Small};
-ghost use Rattle.linear.specs.Row.{plus};
 ghost use Rattle.linear.specs.Buffer.{Written, Overwritten};
-ghost use Rattle.linear.specs.Bits.{bits};
-ghost use Rattle.linear.specs.Packed.{bits_of, sum_bytes};
+ghost use Rattle.linear.specs.Packed.{bits_of, sum_bytes, Added};
 
 // Bit c of those that begin with byte a.
 pub fn bit_at(n: usize, bytes: &[u8], a: usize, c: usize) -> u8
@@ -29,63 +27,57 @@ pub fn put_bit(n: usize, bytes: &mut [u8], a: usize, c: usize, v: u8)
     bytes[at] = b ^ (d << shift);
 }
 
-// Adds the eight bytes at b to those at a. All are read before any is written, so that they are added as one word.
-fn add_eight(matrix: &mut [u8], a: usize, row: &[u8], b: usize)
-    requires { (a + 8 ≤ length matrix.old) × (b + 8 ≤ length row.now) }
-    ensures { Overwritten matrix.old matrix.new a 8 (sum_bytes matrix.old row.now a b) }
+// Adds eight bytes to eight. All are read before any is written, so that they are added as one word.
+fn add_eight(row: &mut [u8], other: &[u8])
+    requires { (length row.old ≡ 8) × (length other.now ≡ 8) }
+    ensures { Added row.old other.now row.new }
 {
-    let x0 = matrix[a] ^ row[b];
-    let x1 = matrix[a + 1] ^ row[b + 1];
-    let x2 = matrix[a + 2] ^ row[b + 2];
-    let x3 = matrix[a + 3] ^ row[b + 3];
-    let x4 = matrix[a + 4] ^ row[b + 4];
-    let x5 = matrix[a + 5] ^ row[b + 5];
-    let x6 = matrix[a + 6] ^ row[b + 6];
-    let x7 = matrix[a + 7] ^ row[b + 7];
-    matrix[a] = x0;
-    matrix[a + 1] = x1;
-    matrix[a + 2] = x2;
-    matrix[a + 3] = x3;
-    matrix[a + 4] = x4;
-    matrix[a + 5] = x5;
-    matrix[a + 6] = x6;
-    matrix[a + 7] = x7;
+    let x0 = row[0] ^ other[0];
+    let x1 = row[1] ^ other[1];
+    let x2 = row[2] ^ other[2];
+    let x3 = row[3] ^ other[3];
+    let x4 = row[4] ^ other[4];
+    let x5 = row[5] ^ other[5];
+    let x6 = row[6] ^ other[6];
+    let x7 = row[7] ^ other[7];
+    row[0] = x0;
+    row[1] = x1;
+    row[2] = x2;
+    row[3] = x3;
+    row[4] = x4;
+    row[5] = x5;
+    row[6] = x6;
+    row[7] = x7;
 }
 
-// Adds as many groups of eight bytes as the row at b has to the row at a, and returns how many bytes that is.
-fn add_groups(matrix: &mut [u8], count: usize, a: usize, row: &[u8], b: usize) -> usize
-    requires { (a + count ≤ length matrix.old) × (b + count ≤ length row.now) }
-    ensures upper_bound { result ≤ count }
-    ensures overwritten { Overwritten matrix.old matrix.new a result (sum_bytes matrix.old row.now a b) }
+// Adds the groups of eight bytes that a row has to those of another.
+fn add_groups(row: &mut [u8], other: &[u8])
+    requires { length other.now ≡ length row.old }
+    ensures { Overwritten row.old row.new 0 (length row.old / 8 * 8) (sum_bytes row.old other.now) }
 {
-    let mut k = 0;
-    while count - k >= 8 {
-        add_eight(matrix, a + k, row, b + k);
-        k += 8;
-    }
-    k
-}
-
-// Adds so many bytes at b to those at a, one by one.
-pub fn add_bytes(matrix: &mut [u8], count: usize, a: usize, row: &[u8], b: usize)
-    requires { (a + count ≤ length matrix.old) × (b + count ≤ length row.now) }
-    ensures { Overwritten matrix.old matrix.new a count (sum_bytes matrix.old row.now a b) }
-{
-    let mut k = 0;
-    while k < count {
-        let x = row[b + k];
-        let y = matrix[a + k];
-        matrix[a + k] = y ^ x;
-        k += 1;
+    for group in 0..row.len() / 8 {
+        let start = group * 8;
+        add_eight(&mut row[start..start + 8], &other[start..start + 8]);
     }
 }
 
-// Adds the row of so many bytes at b to the row at a.
-pub fn add_bits(matrix: &mut [u8], count: usize, a: usize, row: &[u8], b: usize)
-    requires { (a + count ≤ length matrix.old) × (b + count ≤ length row.now) }
-    ensures { Written (bits_of 8 matrix.old) (bits_of 8 matrix.new) (a * 8) (count * 8)
-        (plus bits (λ k. bits_of 8 matrix.old (a * 8 + k)) (λ k. bits_of 8 row.now (b * 8 + k))) }
+// Adds bytes one by one.
+pub fn add_bytes(row: &mut [u8], other: &[u8])
+    requires { length other.now ≡ length row.old }
+    ensures { Added row.old other.now row.new }
 {
-    let k = add_groups(matrix, count, a, row, b);
-    add_bytes(matrix, count - k, a + k, row, b + k);
+    for (i, x) in other.iter().enumerate() {
+        row[i] ^= *x;
+    }
+}
+
+// Adds a row of bits to another: groups of eight bytes, and then what is left.
+#[inline(always)]
+pub fn add_bits(row: &mut [u8], other: &[u8])
+    requires { length other.now ≡ length row.old }
+    ensures { Added row.old other.now row.new }
+{
+    let rest = row.len() / 8 * 8;
+    add_groups(row, other);
+    add_bytes(&mut row[rest..], &other[rest..]);
 }

@@ -11,13 +11,7 @@ ghost use Rattle.many_blocks.specs.Many.{fits, many};
 fn lengths_fit(key: usize, blocks: usize, out: usize) -> bool
     ensures { result ≡ fits key blocks out }
 {
-    if key != 10 {
-        return false;
-    }
-    if blocks % 8 != 0 {
-        return false;
-    }
-    out == blocks
+    key == 10 && blocks % 8 == 0 && out == blocks
 }
 
 // Encrypts the blocks.
@@ -25,10 +19,9 @@ fn lengths_fit(key: usize, blocks: usize, out: usize) -> bool
 pub extern "C" fn many_encrypt(key: &[u8], blocks: &[u8], out: &mut [u8])
     ensures { out.new ≡ many (encrypt size80 (from_bytes key.now)) key.now blocks.now out.old }
 {
-    if !lengths_fit(key.len(), blocks.len(), out.len()) {
-        return;
+    if lengths_fit(key.len(), blocks.len(), out.len()) {
+        unshared::encrypt_blocks(key, blocks, out);
     }
-    unshared::encrypt_blocks(key, blocks.len() / 8, blocks, out);
 }
 
 // Decrypts the blocks.
@@ -36,8 +29,7 @@ pub extern "C" fn many_encrypt(key: &[u8], blocks: &[u8], out: &mut [u8])
 pub extern "C" fn many_decrypt(key: &[u8], blocks: &[u8], out: &mut [u8])
     ensures { out.new ≡ many (decrypt size80 (from_bytes key.now)) key.now blocks.now out.old }
 {
-    if !lengths_fit(key.len(), blocks.len(), out.len()) {
-        return;
+    if lengths_fit(key.len(), blocks.len(), out.len()) {
+        unshared::decrypt_blocks(key, blocks, out);
     }
-    unshared::decrypt_blocks(key, blocks.len() / 8, blocks, out);
 }

@@ -1,16 +1,19 @@
 -- The first entry that is too large, as a search comes to it, and what follows where there is none.
 use mathlib.Core.Path.{◌≡◌, refl, ap₂, sym, ap, ◌∙◌}
-use mathlib.Core.Bool.{Bool, false, cond}
+use mathlib.Core.Bool.{Bool, true, false, cond, ◌&&◌}
 use mathlib.Core.List.{List, [], ◌∷◌, ◌++◌}
 use Prim.Native.Nat.{ℕ, zero, suc, ◌≤◌, ◌<◌, ◌+◌}
 use native.Mathlib.Nat.{zero-add}
 use native.Mathlib.Decide.{dec_lt}
 use native.Mathlib.Omega.{arith}
-use lib.Dec.{leb}
+use lib.Dec.{leb, ltb}
+use Rattle.std.specs.List.{fold, position_or_len}
 use borrow.Author.Tests.{lt-ltb, le-ltb, le-leb, lt-leb}
+use Rattle.std.proofs.Math.Dec.{leb-suc-zero, leb-suc-suc}
+use Rattle.std.specs.Prelude.{Option, Some, None}
 use lib.ListN.{length, get_or, length-append}
 use Rattle.refusal.specs.Outcome.{Outcome, refused}
-use Rattle.refusal.specs.Large.{first_large, LargeAlike, test_below}
+use Rattle.refusal.specs.Large.{first_large, found, LargeAlike, test_below}
 
 -- ---- a search that has come to entry i
 
@@ -150,4 +153,48 @@ both_small bound l m h = elim (dec_lt (first_large bound l) (length l)) [
   | no g ↦
       let e : length l ≤ first_large bound l = omega arith in
       (e, omega (arith, large_second bound l m e, length-append l m, large_within bound l))
+]
+
+-- ---- the search by the library's methods
+
+-- the place that `position` comes to is that of the first entry that is too large
+pub large_position : (bound : ℕ) (l : List ℕ) → position_or_len (leb bound) l ≡ first_large bound l
+unfolding first_large
+large_position bound [] = refl
+large_position bound (x ∷ l) = elim (dec_lt x bound) [
+  | yes g ↦ rw (lt-ltb x bound g, lt-leb bound x g, large_position bound l) (omega arith)
+  | no g ↦ rw (le-ltb x bound (omega arith), le-leb bound x (omega arith))
+]
+
+-- one pass over the entries keeps whether all so far are below the bound
+none_in : (bound : ℕ) (l : List ℕ) → fold (λ all x. all && ltb x bound) false l ≡ false
+none_in bound [] = refl
+none_in bound (x ∷ l) = none_in bound l
+
+pub all_below : (bound : ℕ) (l : List ℕ) → fold (λ all x. all && ltb x bound) true l ≡ leb (length l) (first_large bound l)
+unfolding first_large
+all_below bound [] = refl
+all_below bound (x ∷ l) = elim (dec_lt x bound) [
+  | yes g ↦ rw (lt-ltb x bound g, leb-suc-suc (length l) (first_large bound l)) (all_below bound l)
+  | no g ↦ rw (le-ltb x bound (omega arith), none_in bound l, leb-suc-zero (length l))
+]
+
+-- the place that is found where there is one, and where there is none
+pub found_one : {place none : ℕ} → place < none → found place none ≡ Some place
+found_one {place} {none} h = rw (lt-ltb place none h)
+
+pub found_none : {place none : ℕ} → none ≤ place → found place none ≡ None
+found_none {place} {none} h = rw (le-ltb place none h)
+
+-- and back
+pub found_some : {place none at : ℕ} → found place none ≡ Some at → (place < none) × (place ≡ at)
+found_some {place} {none} {at} h = elim (dec_lt place none) [
+  | yes l ↦ let e : ◌≡◌ {A = Option ℕ} (Some place) (Some at) = sym (found_one l) ∙ h in (l, cc)
+  | no l ↦ let e : ◌≡◌ {A = Option ℕ} None (Some at) = sym (found_none (omega arith)) ∙ h in let z : ◌≡◌ {A = ℕ} 0 1 = cc in absurd (omega arith)
+]
+
+pub found_nothing : {place none : ℕ} → found place none ≡ None → none ≤ place
+found_nothing {place} {none} h = elim (dec_lt place none) [
+  | yes l ↦ let e : ◌≡◌ {A = Option ℕ} (Some place) None = sym (found_one l) ∙ h in let z : ◌≡◌ {A = ℕ} 0 1 = cc in absurd (omega arith)
+  | no l ↦ omega arith
 ]

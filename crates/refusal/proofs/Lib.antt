@@ -1,3 +1,4 @@
 pub mod Outcome
+pub mod Exits
 pub mod Range
 pub mod Large

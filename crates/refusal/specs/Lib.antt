@@ -1,4 +1,6 @@
 pub mod Outcome
+pub mod Refusals
+pub mod Words
 pub mod Range
 pub mod Large
 pub mod Watch

@@ -1,78 +1,59 @@
 // The tests that operations share.
 #![tactic(auto)]
 
-ghost use Rattle.std.specs.Prelude.{◌≡◌, ◌<◌, leb, length};
+pub mod answers;
+pub mod refusals;
+
+ghost use Rattle.std.specs.Prelude.{◌≡◌, ◌+◌, ◌<◌, ◌^◌, [], length};
+ghost use Rattle.refusal.specs.Outcome.{done};
 ghost use Rattle.refusal.specs.Range.{one_to};
-ghost use Rattle.refusal.specs.Large.{first_large};
+ghost use Rattle.refusal.specs.Large.{first_large, found, test_below};
+ghost use Rattle.refusal.specs.Refusals.{report, nothing};
 ghost use Rattle.refusal.specs.Watch.{list_fits};
 
+pub use answers::{HandedBack, answer_words};
+pub use refusals::{Refusal, refuse_unless};
+
 // Whether x is one of the numbers 1 to `most`.
+#[tactic(auto, unfolding(crate::specs::Range::one_to))]
 pub fn one_to(most: usize, x: usize) -> bool
     ensures { result ≡ one_to most x }
 {
-    if x < 1 {
-        return false;
-    }
-    x <= most
+    1 <= x && x <= most
 }
 
-// Whether all entries are below the bound. No entry ends the loop, so that many are tested at once.
-fn all_below(bound: u8, entries: &[u8]) -> bool
-    ensures { result ≡ leb (length entries.now) (first_large bound entries.now) }
+// The place of the first entry that is not below the bound, if there is one.
+pub fn first_large(bound: u8, entries: &[u8]) -> Option<usize>
+    ensures { result ≡ found (first_large bound entries.now) (length entries.now) }
 {
-    let mut all = true;
-    let mut i = 0;
-    while i < entries.len() {
-        if entries[i] >= bound {
-            all = false;
-        }
-        i += 1;
+    // no entry ends this pass, so that many are tested at once
+    if entries.iter().fold(true, |all, e| all & (*e < bound)) {
+        return None;
     }
-    all
+    entries.iter().position(|e| *e >= bound)
 }
 
-// The place of the first entry that is not below the bound, where there is one.
-fn find_large(bound: u8, entries: &[u8]) -> usize
-    requires { first_large bound entries.now < length entries.now }
-    ensures { result ≡ first_large bound entries.now }
+// The test that all entries are below the bound: the refusal names the first that is not, by its place counted from `from`.
+pub fn refuse_large(bound: u8, entries: &[u8], from: usize) -> Result<(), Refusal>
+    requires { from + length entries.now < 2 ^ 64 }
+    ensures { report nothing result ≡ test_below bound from entries.now (done []) }
 {
-    let mut i = 0;
-    while entries[i] < bound {
-        i += 1;
+    match first_large(bound, entries) {
+        Some(at) => Err(Refusal::Entry { place: from + at }),
+        None => Ok(()),
     }
-    i
 }
 
-// The place of the first entry that is not below the bound, or the length if there is none.
-pub fn first_large(bound: u8, entries: &[u8]) -> usize
-    ensures { result ≡ first_large bound entries.now }
+// The place of the first step number that is not below the total, if there is one.
+pub fn first_past(total: u32, list: &[u32]) -> Option<usize>
+    ensures { result ≡ found (first_large total list.now) (length list.now) }
 {
-    if all_below(bound, entries) {
-        return entries.len();
-    }
-    find_large(bound, entries)
-}
-
-// The place of the first step number that is not below the total, or the length if there is none.
-pub fn first_past(total: u32, list: &[u32]) -> usize
-    ensures { result ≡ first_large total list.now }
-{
-    let mut i = 0;
-    while i < list.len() {
-        if list[i] >= total {
-            return i;
-        }
-        i += 1;
-    }
-    i
+    list.iter().position(|number| *number >= total)
 }
 
 // Whether a list of so many numbers has as many places for their values, and is not too long.
 pub fn list_fits(numbers: usize, places: usize) -> bool
     ensures { result ≡ list_fits numbers places }
 {
-    if numbers != places {
-        return false;
-    }
-    numbers <= 64
+    numbers == places && numbers <= 64
 }

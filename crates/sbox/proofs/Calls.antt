@@ -1,39 +1,44 @@
 -- The laws of calls: the arguments that pass the tests, and what a run hands back and writes.
-use mathlib.Core.Path.{◌≡◌, refl, sym, ap, ◌∙◌, subst}
+use mathlib.Core.Path.{◌≡◌, refl, sym, ap, ap₂, ◌∙◌, subst}
 use mathlib.Core.Bool.{Bool, true, cond, and-eq-true_iff}
 use mathlib.Core.List.{List, [], ◌∷◌, ◌++◌}
-use Prim.Native.Nat.{ℕ, ◌+◌, ◌^◌, ◌≤◌, ◌<◌}
+use Prim.Native.Nat.{ℕ, suc, ◌+◌, ◌-◌, ◌^◌, ◌≤◌, ◌<◌}
 use native.Mathlib.Decide.{dec_lt}
 use native.Mathlib.Omega.{arith}
 use borrow.Author.Tests.{eqb-true, eq-eqb, leb-true}
 use lib.Dec.{leb, eqb}
-use lib.ListN.{length, length-drop, get_or-eq_default}
+use lib.ListN.{length, drop, take, get_or, replicate, get_or-append, get_or-eq_default}
+use lib.Seq.{get_or-append-add, get_or-drop, get_or-take, length-take-le}
+use Rattle.steps.proofs.Sharing.{share_zeros}
 use lib.Pow.{pow_pos}
 use Rattle.xor.specs.Sum.{join, Small}
-use Rattle.refusal.specs.Outcome.{Outcome, done, and_then}
-use Rattle.refusal.specs.Watch.{list_fits, test_steps}
+use Rattle.refusal.specs.Outcome.{done}
 use Rattle.refusal.specs.Range.{one_to}
 use Rattle.refusal.specs.Large.{first_large}
 use Rattle.refusal.proofs.Outcome.{passed, then_passed}
 use Rattle.refusal.proofs.Range.{one_to_range}
 use Rattle.refusal.proofs.Large.{all_small, both_small}
-use Rattle.steps.specs.Sharing.{share, Sharing, Filled}
+use Rattle.steps.specs.Program.{Run, trace}
+use Rattle.steps.specs.Recorder.{AllBelow}
+use Rattle.steps.specs.Sharing.{share, Sharing}
 use Rattle.steps.specs.Fill.{tabulate}
+use Rattle.steps.proofs.Fill.{tabulate_get_or, tabulate_same}
 use Rattle.steps.specs.Tape.{elements, bytes_for}
 use Rattle.steps.specs.declared.counts.Counts.{Counts}
-use Rattle.steps.specs.Machine.{zero_counts, Ready, Went, Whole}
+use Rattle.steps.specs.Machine.{start_of, Ready, Whole}
+use Rattle.steps.specs.Taken.{handed_back}
 use Rattle.steps.specs.Call.{call_counts, Takes}
-use Rattle.steps.specs.Call as call_spec
 use Rattle.steps.proofs.Call as call
 use Rattle.steps.proofs.Tape.{elements_nibbles}
-use Rattle.decomposition.specs.Layout.{head, layout, Known, Pair}
-use Rattle.decomposition.specs.Record.{coefficients_of, version_of, width_of, outputs_of, read_outcome, Accepted}
+use Rattle.decomposition.specs.Layout.{layout, Known, Pair}
+use Rattle.decomposition.specs.declared.layouts.Layout.{Layout}
+use Rattle.decomposition.specs.Record.{coefficients_of, layout_of, width_of, outputs_of, read_outcome}
 use Rattle.decomposition.proofs.ReadOutcome.{read_values}
-use Rattle.decomposition.proofs.Sizes.{each_pair, known_both}
+use Rattle.decomposition.proofs.Sizes.{each_pair, known_both, layout_outputs, layout_width}
 use Rattle.sbox.specs.Form.{basis_in, solution_in}
 use Rattle.sbox.specs.Figures.{sbox_products, sbox_draws, sbox_steps}
 use Rattle.sbox.specs.Sbox.{sbox}
-use Rattle.sbox.specs.Operations.{call_program, sbox_call, sbox_lengths, tested_random, argument_tests, call_tests, sbox_output, watch_output, SameShares, Callable, watch_outcome}
+use Rattle.sbox.specs.Operations.{call_program, sbox_call, sbox_lengths, tested_random, argument_tests, call_tests, sbox_output, SameShares, Callable, OfPair, layout_program}
 use Rattle.sbox.proofs.Places.{sbox_same}
 use Rattle.sbox.proofs.Record.{accepted_record}
 use Rattle.sbox.proofs.Counts.{figures_4_4, figures_6_6, figures_6_4}
@@ -47,11 +52,38 @@ few_taken n m s w h =
     each_pair (λ n m. (sbox_products n m < 6) × (sbox_draws n m s < 200) × (sbox_steps n m s < 4000))
     (omega (arith, few_pairs h, figures_4_4 s)) (omega (arith, few_pairs h, figures_6_6 s)) (omega (arith, few_pairs h, figures_6_4 s)) n m w
 
--- ---- a call that passes the tests
+-- ---- a record that Read accepts, by the layout and the coefficients that it hands on
 
--- the record has as many coefficients as the code asks
-pub record_room : {n : ℕ} {r : List ℕ} → Accepted n r → (layout n (outputs_of r)).coefficients ≤ length (coefficients_of r)
-record_room {n} {r} a = omega (arith, length-drop (head (version_of r)) r, a.whole)
+module _ (r : List ℕ) {L : Layout} (l : L ≡ layout_of r) where
+  pub width_is : L.width ≡ width_of r
+  width_is = ap (λ (M : Layout). M.width) l ∙ layout_width (width_of r) (outputs_of r)
+
+  pub outputs_is : L.outputs ≡ outputs_of r
+  outputs_is = ap (λ (M : Layout). M.outputs) l ∙ layout_outputs (width_of r) (outputs_of r)
+
+  pub of_pair : Pair (width_of r) (outputs_of r) → OfPair L
+  of_pair pair = record { pair = rw (width_is, outputs_is) pair; layout_is = l ∙ sym (ap₂ layout width_is outputs_is) }
+
+  module _ {cs : List ℕ} {s k : ℕ} (shares random : List ℕ) (e : cs ≡ coefficients_of r) (f : k ≡ s) where
+    program_is : layout_program L cs k shares ≡ call_program r s shares
+    unfolding call_program
+    program_is = rw (width_is, outputs_is, e, f) refl
+
+    -- what holds of its random elements and its program holds of those of the call,
+    pub at_call : (P : List ℕ → Run (List ℕ) → Type 0) → P (elements L.width random) (layout_program L cs k shares)
+        → P (elements (width_of r) random) (call_program r s shares)
+    at_call P h =
+        let same : P (elements L.width random) (call_program r s shares) = subst (λ (m : Run (List ℕ)). P (elements L.width random) m) program_is h in
+        subst (λ (n : ℕ). P (elements n random) (call_program r s shares)) width_is same
+
+    -- and the other way
+    pub of_call : (P : List ℕ → Run (List ℕ) → Type 0) → P (elements (width_of r) random) (call_program r s shares)
+        → P (elements L.width random) (layout_program L cs k shares)
+    of_call P h =
+        let same : P (elements L.width random) (call_program r s shares) = subst (λ (n : ℕ). P (elements n random) (call_program r s shares)) (sym width_is) h in
+        subst (λ (m : Run (List ℕ)). P (elements L.width random) m) (sym program_is) same
+
+-- ---- a call that passes the tests
 
 -- the lengths that a call takes, and that these are all
 pub call_lengths_lem : (n m s shares random : ℕ) (fits : Bool) → sbox_lengths n m s shares random fits ≡ true
@@ -72,9 +104,6 @@ tested_small : (n : ℕ) → Known n → (random : List ℕ) → Small 8 random 
 unfolding tested_random
 tested_small n w random bytes =
     known_both (λ n. Small n (cond (eqb n 4) [] (elements n random)) → Small n (elements n random)) (λ h. elements_nibbles random bytes) (λ h. h) n w
-
-only : {n m : ℕ} → done (n ∷ []) ≡ done (m ∷ []) → n ≡ m
-only e = cc
 
 -- where the tests are passed, so is each of them
 pub passed_call : (r : List ℕ) (s : ℕ) (shares random : List ℕ) (fits : Bool) → Small 8 random
@@ -104,13 +133,6 @@ passed_call r s shares random fits bytes e =
     } in
     (callable, lengths.2, g.1)
 
--- the same where they hand on the width n
-pub tests_passed : (r : List ℕ) (s : ℕ) (shares random : List ℕ) (fits : Bool) (n : ℕ) → Small 8 random → call_tests r s shares random fits ≡ done (n ∷ [])
-    → Callable n r s shares random × (fits ≡ true)
-tests_passed r s shares random fits n bytes e =
-    let p = passed_call r s shares random fits bytes e in
-    (subst (λ (k : ℕ). Callable k r s shares random) (only p.2) p.0, p.1)
-
 -- ---- its run
 
 -- s small elements are a sharing of their sum
@@ -127,12 +149,12 @@ module _ {n s : ℕ} {r shares random : List ℕ} (a : Callable n r s shares ran
       rw a.accepted.named (takes accepted s (join shares) shares (elements n random) a.some a.nine sharing a.random_small)
 
   -- it may run
-  pub call_ready : {watch vs : List ℕ} → length watch ≡ length vs → Ready (elements n random) watch (call_program r s shares) zero_counts vs
+  pub call_ready : {watch vs : List ℕ} → length watch ≡ length vs → Ready (call_program r s shares) (start_of (elements n random) watch vs)
   unfolding sbox_call
   call_ready {watch} {vs} e =
       let few = few_taken n (outputs_of r) s a.accepted.pair a.nine in
       let bytes : length random ≡ bytes_for (width_of r) (sbox_draws n (outputs_of r) s) = rw a.accepted.named a.random_length in
-      let ready : Ready (elements (width_of r) random) watch (call_program r s shares) zero_counts vs =
+      let ready : Ready (call_program r s shares) (start_of (elements (width_of r) random) watch vs) =
       call.call_ready (sbox_call r s shares random) call_takes (omega arith) (omega arith) (omega arith) bytes e in
       rw a.accepted.named at ready
 
@@ -145,11 +167,11 @@ call_program_lem {n} {s} {r} {shares} x a same = rw a.accepted.named (sbox_same 
 -- what a call's run hands back and writes
 module _ {n s : ℕ} {r shares random : List ℕ} (a : Callable n r s shares random) where
   pub call_counts_lem : {x : List ℕ} {c : Counts} → Whole (elements n random) (call_program r s shares) x c
-      → call_counts (sbox_call r s shares random) ≡ c.products ∷ bytes_for n c.random ∷ c.steps ∷ []
+      → call_counts (sbox_call r s shares random) ≡ handed_back n c
   unfolding sbox_call
   call_counts_lem {x} {c} w =
       let v : Whole (elements (width_of r) random) (call_program r s shares) x c = rw a.accepted.named w in
-      call.call_counts_lem (sbox_call r s shares random) v ∙ ap (λ (k : ℕ). c.products ∷ bytes_for k c.random ∷ c.steps ∷ []) a.accepted.named
+      call.call_counts_lem (sbox_call r s shares random) v ∙ ap (λ (k : ℕ). handed_back k c) a.accepted.named
 
   pub call_output : {x : List ℕ} {c : Counts} → Whole (elements n random) (call_program r s shares) x c
       → tabulate s (share x) ≡ sbox_output r s shares random
@@ -164,25 +186,32 @@ module _ {n s : ℕ} {r shares random : List ℕ} (a : Callable n r s shares ran
       each_pair (λ n m. 0 < sbox_steps n m s) (omega (arith, a.some, figures_4_4 s)) (omega (arith, a.some, figures_6_6 s))
       (omega (arith, a.some, figures_6_4 s)) n (outputs_of r) a.accepted.pair
 
-  pub call_watched : {list vs x vs' : List ℕ} {c : Counts} → length list ≡ length vs → length list ≤ first_large (sbox_steps n (outputs_of r) s) list
-      → Went (elements n random) list (call_program r s shares) zero_counts vs x c vs' → vs' ≡ watch_output r s shares random list
-  unfolding watch_output sbox_call
-  call_watched {list} {vs} {x} {vs'} {c} e below w =
-      let v : Went (elements (width_of r) random) list (call_program r s shares) zero_counts vs x c vs' = rw a.accepted.named w in
-      call.call_watched (sbox_call r s shares random) (call_takes a) some_steps e below v
-
-  -- what a watch answers, once the tests but the last are passed
-  pub watch_tests : (list : List ℕ) (values : ℕ) {v : List ℕ} → call_tests r s shares random (list_fits (length list) values) ≡ done v
-      → watch_outcome r s shares random list values ≡ test_steps (sbox_steps n (outputs_of r) s) list (done (call_counts (sbox_call r s shares random)))
-  unfolding watch_outcome sbox_call call_spec.watch_outcome
-  watch_tests list values e =
-      ap (λ (o : Outcome). and_then o (test_steps (sbox_steps (width_of r) (outputs_of r) s) list (done (call_counts (sbox_call r s shares random))))) e
-      ∙ ap (λ (k : ℕ). test_steps (sbox_steps k (outputs_of r) s) list (done (call_counts (sbox_call r s shares random)))) a.accepted.named
+  pub steps_below : (list : List ℕ) → length list ≤ first_large (sbox_steps n (outputs_of r) s) list
+      → AllBelow (length (trace (call_program r s shares) (elements (width_of r) random))) list
+  steps_below list below = rw (call_takes a).steps_are (all_below list (all_small (sbox_steps n (outputs_of r) s) list some_steps below))
+    where
+      all_below : (l : List ℕ) → ((i : ℕ) → get_or l i 0 < sbox_steps n (outputs_of r) s) → AllBelow (sbox_steps n (outputs_of r) s) l
+      all_below [] h = tt
+      all_below (x ∷ l) h = (h 0, all_below l (λ i. h (suc i)))
 
 -- ---- shares that are copied
 
-pub nine_same : (l c : List ℕ) (i : ℕ) → length l ≤ i → Filled (share l) i c → i ≤ length l → SameShares c l
-nine_same l c i h f k j = elim (dec_lt j i) [
-  | yes g ↦ f.filled j g
-  | no g ↦ f.past j (omega arith) ∙ sym (get_or-eq_default l 0 (omega arith))
+-- zeros past the end change no share
+pub padded : (l : List ℕ) (k n : ℕ) → SameShares (l ++ drop k (replicate n 0)) l
+padded l k n i = elim (dec_lt i (length l)) [
+  | yes h ↦ get_or-append l (drop k (replicate n 0)) 0 i h
+  | no h ↦
+      let e : i ≡ length l + (i - length l) = omega arith in
+      ap (λ (j : ℕ). share (l ++ drop k (replicate n 0)) j) e
+      ∙ get_or-append-add l (drop k (replicate n 0)) (i - length l) 0
+      ∙ get_or-drop k (replicate n 0) (i - length l) 0
+      ∙ share_zeros n (k + (i - length l))
+      ∙ sym (get_or-eq_default l 0 {n = i} (omega arith))
 ]
+
+-- the first n shares of a sharing
+pub first_shares : (n : ℕ) (a : List ℕ) → n ≤ length a → take n a ≡ tabulate n (share a)
+first_shares n a h =
+    sym (tabulate_get_or (take n a) 0)
+    ∙ ap (λ (m : ℕ). tabulate m (share (take n a))) (length-take-le n a h)
+    ∙ tabulate_same n (share (take n a)) (share a) (λ i l. get_or-take n a i 0 l)

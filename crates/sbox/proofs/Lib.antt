@@ -8,13 +8,13 @@ pub mod Experiment
 pub mod Secrecy
 pub mod Record
 pub mod Theorems
-pub mod Holds
-pub mod Lockstep
-pub mod TableProgram
 pub mod TableRuns
 pub mod TableClasses
+pub mod Holds
+pub mod Lockstep
 pub mod Widths
 pub mod Calls
+pub mod Tests
 pub mod Answers
 pub mod Output
 pub mod Settles

@@ -13,7 +13,7 @@ use Rattle.field.specs.Mul.{mul}
 use Rattle.field.specs.Polynomial.{value}
 use Rattle.steps.specs.Fill.{tabulate}
 use Rattle.steps.proofs.Fill.{length_tabulate, get_d_tabulate}
-use Rattle.decomposition.specs.Layout.{layout, sized}
+use Rattle.decomposition.specs.Layout.{layout, sized, Pair}
 use Rattle.decomposition.specs.Form.{polynomial_in, value_of, form}
 use Rattle.decomposition.specs.Record.{outputs_of, coefficients_of, basis_of, solution_of, Accepted}
 use Rattle.decomposition.specs.Check.{form_in}
@@ -32,26 +32,28 @@ polynomials_small n k L l h i j = elim (dec_lt i k) [
       rw none (pow_pos n)
 ]
 
--- an accepted record's coefficients are those of a form
-pub accepted_record : (n : ℕ) (r : List ℕ) → Accepted n r
-    → let m = outputs_of r in AcceptedForm n m (basis_in n m (coefficients_of r)) (solution_in n m (coefficients_of r))
+-- small coefficients, for a pair of width and output bits, are those of a form
+pub accepted_form : (n m : ℕ) → Pair n m → (cs : List ℕ) → Small n cs → AcceptedForm n m (basis_in n m cs) (solution_in n m cs)
 unfolding basis_in solution_in
-accepted_record n r a =
-    let m = outputs_of r in
+accepted_form n m pair cs elements =
     let L = layout n m in
     let k = basis_size n m in
-    let cs = coefficients_of r in
     let counted : length (tabulate k (polynomial_in L (basis_of L cs))) ≡ k = length_tabulate k (polynomial_in L (basis_of L cs)) in
     let further : length (tabulate (suc k) (polynomial_in L (solution_of L cs))) ≡ suc k = length_tabulate (suc k) (polynomial_in L (solution_of L cs)) in
     record {
-      pair = a.pair;
+      pair = pair;
       size = counted;
       coefficients = record {
         one_more = further ∙ sym (ap suc counted);
-        small_basis = polynomials_small n k L (basis_of L cs) (small_take n L.basis cs a.elements);
-        small = polynomials_small n (suc k) L (solution_of L cs) (small_drop n L.basis cs a.elements);
+        small_basis = polynomials_small n k L (basis_of L cs) (small_take n L.basis cs elements);
+        small = polynomials_small n (suc k) L (solution_of L cs) (small_drop n L.basis cs elements);
       };
     }
+
+-- so are those of an accepted record
+pub accepted_record : (n : ℕ) (r : List ℕ) → Accepted n r
+    → let m = outputs_of r in AcceptedForm n m (basis_in n m (coefficients_of r)) (solution_in n m (coefficients_of r))
+accepted_record n r a = accepted_form n (outputs_of r) a.pair (coefficients_of r) a.elements
 
 -- and their form, polynomial by polynomial, is the form that Check compares
 pub record_form_lem : (n m : ℕ) (cs : List ℕ) (x : ℕ) → form_of n (basis_in n m cs) (solution_in n m cs) x ≡ form_in (layout n m) cs x

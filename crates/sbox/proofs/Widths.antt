@@ -1,60 +1,91 @@
--- The pairs of width and output bits: how many powers and products each has, and what the code's program at a pair comes to in terms of the definition.
-use mathlib.Core.Path.{◌≡◌, refl}
-use mathlib.Core.List.{List}
-use Prim.Native.Nat.{ℕ, ◌+◌, ◌*◌, ◌<◌, ◌≤◌}
+-- The layouts: how many powers and products each has, and that the code's program at a layout is that of the definition.
+use mathlib.Core.Path.{◌≡◌, refl, sym, ap, ◌∙◌}
+use mathlib.Core.List.{List, []}
+use Prim.Native.Nat.{ℕ, suc, ◌+◌, ◌-◌, ◌*◌, ◌<◌, ◌≤◌}
 use native.Mathlib.Omega.{arith}
-use lib.ListN.{length}
+use lib.ListN.{length, take, drop}
 use Rattle.field.specs.Polynomial.{exponents}
 use Rattle.field.proofs.Polynomial.{length_exponents_4, length_exponents_6}
-use Rattle.steps.specs.declared.counts.Counts.{Counts}
-use Rattle.steps.specs.Tape.{elements}
-use Rattle.steps.specs.Machine.{Ready, Went}
-use Rattle.decomposition.specs.Layout.{terms_of, sized, layout, Pair}
-use Rattle.decomposition.proofs.Sizes.{each_pair}
-use Rattle.sbox.specs.Sbox.{sbox}
+use Rattle.steps.specs.Fill.{tabulate}
+use Rattle.steps.proofs.Fill.{length_tabulate, get_d_tabulate}
+use Rattle.decomposition.specs.Form.{polynomial_in}
+use Rattle.decomposition.specs.Layout.{terms_of, sized, layout, Known, Pair}
+use Rattle.decomposition.specs.Record.{basis_of, solution_of}
+use Rattle.decomposition.specs.declared.layouts.Layout.{Layout}
+use Rattle.decomposition.proofs.Sizes.{each_pair, known_both}
+use Rattle.product.specs.ByShare.{nth}
+use Rattle.sbox.specs.Sbox.{factors, sbox}
 use Rattle.sbox.specs.Form.{basis_size, basis_in, solution_in}
-use Rattle.sbox.specs.TableSteps.{sbox_rows}
-use Rattle.sbox.proofs.TableProgram.{rows_are_sbox}
+use Rattle.sbox.specs.TableSteps.{Sized, coefficients_at, sbox_rows}
+use Rattle.sbox.specs.Operations.{OfPair}
+use Rattle.sbox.proofs.TableClasses.{class_of, width_range}
+use Rattle.sbox.proofs.Lockstep.{rows_same}
 
--- width n with m output bits has k powers and h products
-pub record Sized (n m k h : ℕ) : Type 0 where
-  pub pair : Pair n m
-  pub listed : length (exponents n) ≡ k + 1
-  pub based : basis_size n m ≡ h
-  pub terms : terms_of n m ≡ h + 1
+-- the powers are n in each class
+powers_made : (n : ℕ) → Known n → n * (1 + length (factors n)) + 1 ≡ length (exponents n)
+unfolding factors
+powers_made = known_both (λ n. n * (1 + length (factors n)) + 1 ≡ length (exponents n)) (sym length_exponents_4) (sym length_exponents_6)
 
-pub sized_4_4 : Sized 4 4 8 1
-unfolding basis_size terms_of
-sized_4_4 = record { pair = record { width = refl; outputs = refl }; listed = length_exponents_4; based = refl; terms = refl }
+-- the sizes of a layout, its width being n
+module _ {L : Layout} (o : OfPair L) where
+  exponents_are : L.exponents ≡ length (exponents L.width)
+  unfolding layout sized
+  exponents_are = ap (λ (M : Layout). M.exponents) o.layout_is
 
-terms_more : (n m : ℕ) → Pair n m → terms_of n m ≡ basis_size n m + 1
-unfolding basis_size terms_of
-terms_more = each_pair (λ n m. terms_of n m ≡ basis_size n m + 1) refl refl refl
+  pub terms_are : L.terms ≡ terms_of L.width L.outputs
+  unfolding layout sized
+  terms_are = ap (λ (M : Layout). M.terms) o.layout_is
 
-pub sized_6 : (m : ℕ) → Pair 6 m → Sized 6 m 18 (basis_size 6 m)
-sized_6 m k = record { pair = k; listed = length_exponents_6; based = refl; terms = terms_more 6 m k }
+few_terms : (n m : ℕ) → Pair n m → (n ≡ 4 → terms_of n m ≡ 2) × (0 < terms_of n m) × (terms_of n m ≤ 4)
+unfolding terms_of
+few_terms =
+    each_pair (λ n m. (n ≡ 4 → terms_of n m ≡ 2) × (0 < terms_of n m) × (terms_of n m ≤ 4))
+    ((λ e. refl), omega arith, omega arith) ((λ e. absurd (omega arith)), omega arith, omega arith) ((λ e. absurd (omega arith)), omega arith, omega arith)
 
--- the basis has up to three polynomials
-pub basis_few : (n m : ℕ) → Pair n m → (0 < basis_size n m) × (basis_size n m ≤ 3)
-unfolding basis_size terms_of
-basis_few = each_pair (λ n m. (0 < basis_size n m) × (basis_size n m ≤ 3)) (omega arith) (omega arith) (omega arith)
+-- polynomial i of a list of coefficients
+listed_at : {e e' : ℕ} (m : ℕ) (l : List ℕ) → e ≡ e' → (i : ℕ) → i < m → coefficients_at e' l (0 + i) ≡ nth (tabulate m (λ i. take e (drop (i * e) l))) i
+unfolding coefficients_at
+listed_at {e} {e'} m l p i b =
+    let same : 0 + i ≡ i = omega arith in
+    rw (same, ← p) (sym (get_d_tabulate m (λ i. take e (drop (i * e) l)) i [] b))
 
--- w is the width n, and o the output bits m
-module _ {w o n m k h : ℕ} (s : ℕ) (e : w ≡ n) (f : o ≡ m) (z : Sized n m k h) where
-  -- the coefficients are long enough
-  pub sized_room : {l : ℕ} → (layout w o).coefficients ≤ l → (h + (h + 1)) * (k + 1) ≤ l
-  unfolding layout sized basis_size
-  sized_room r = let g = rw (e, f, z.listed, z.based, z.terms) at r in omega (arith, g)
+module _ {L : Layout} (o : OfPair L) where
+  pub some_terms : 0 < L.terms
+  some_terms = omega (arith, terms_are o, few_terms L.width L.outputs o.pair)
 
-  same : (coefficients x : List ℕ) → s ≤ 9 → sbox_rows n k h s coefficients x ≡ sbox n s (basis_in n m coefficients) (solution_in n m coefficients) x
-  same coefficients x nine = rows_are_sbox n m k h s z.pair z.listed z.based nine coefficients x x (λ i b. refl)
+  pub sized_4 : L.width ≡ 4 → Sized 4 8 1 L
+  sized_4 w = record {
+    known = refl;
+    listed = length_exponents_4;
+    powers = omega arith;
+    own = exponents_are o ∙ ap (λ (n : ℕ). length (exponents n)) w ∙ length_exponents_4;
+    terms = terms_are o ∙ (few_terms L.width L.outputs o.pair).0 w;
+    few = omega arith;
+  }
 
-  pub sized_ready : (bytes coefficients x : List ℕ) {watch vs : List ℕ} {c : Counts} → s ≤ 9
-      → Ready (elements w bytes) watch (sbox w s (basis_in w o coefficients) (solution_in w o coefficients) x) c vs
-      → Ready (elements n bytes) watch (sbox_rows n k h s coefficients x) c vs
-  sized_ready bytes coefficients x nine r = rw (same coefficients x nine) (rw (e, f) at r)
+  pub sized_6 : L.width ≡ 6 → Sized 6 18 (L.terms - 1) L
+  sized_6 w = record {
+    known = refl;
+    listed = length_exponents_6;
+    powers = omega arith;
+    own = exponents_are o ∙ ap (λ (n : ℕ). length (exponents n)) w ∙ length_exponents_6;
+    terms = omega (arith, some_terms);
+    few = omega (arith, terms_are o, few_terms L.width L.outputs o.pair);
+  }
 
-  pub sized_went : (bytes coefficients x : List ℕ) {watch vs y vs' : List ℕ} {c c' : Counts} → s ≤ 9
-      → Went (elements n bytes) watch (sbox_rows n k h s coefficients x) c vs y c' vs'
-      → Went (elements w bytes) watch (sbox w s (basis_in w o coefficients) (solution_in w o coefficients) x) c vs y c' vs'
-  sized_went bytes coefficients x nine r = rw (e, f) (rw (same coefficients x nine) at r)
+  -- the program of the code is that of the definition
+  pub rows_are_sbox : {n k h : ℕ} (s : ℕ) → L.width ≡ n → Sized n k h L → (cs x : List ℕ)
+      → sbox_rows n k h s L cs x ≡ sbox L.width s (basis_in L.width L.outputs cs) (solution_in L.width L.outputs cs) x
+  unfolding basis_in solution_in basis_size
+  rows_are_sbox {n} {k} {h} s w z cs x =
+      let size : terms_of L.width L.outputs - 1 ≡ h = omega (arith, terms_are o, z.terms) in
+      let qs = tabulate h (polynomial_in L (basis_of L cs)) in
+      let ps = tabulate (suc h) (polynomial_in L (solution_of L cs)) in
+      let lq : length qs ≡ h = length_tabulate h (polynomial_in L (basis_of L cs)) in
+      let lp : length ps ≡ suc h = length_tabulate (suc h) (polynomial_in L (solution_of L cs)) in
+      let range = width_range n z.known in
+      rows_same n s k h L cs qs ps (omega (arith, z.listed)) lq (omega arith) (omega (arith, z.powers, z.few))
+      (λ i b. listed_at h (basis_of L cs) z.own i (omega arith)) (λ i b. listed_at (suc h) (solution_of L cs) z.own i (omega arith)) x
+      (omega arith) (omega arith) (class_of n z.known) (omega (arith, powers_made n z.known, z.listed))
+      ∙ ap (λ (m : ℕ). sbox m s qs ps x) (sym w)
+      ∙ rw (← o.layout_is, size) refl

@@ -3,7 +3,6 @@ pub mod Form
 pub mod Shape
 pub mod Figures
 pub mod Experiment
-pub mod Table
 pub mod TableSteps
 pub mod Operations
 pub mod Alike

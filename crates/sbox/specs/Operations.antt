@@ -1,7 +1,7 @@
 -- The operations S-box and Watch S-box. A sharing lies share 0 first.
 use Rattle.std.specs.Prelude.{◌≡◌, Bool, ◌&&◌, cond, List, [], ◌∷◌, ◌++◌, ℕ, ◌^◌, ◌≤◌, ◌<◌, eqb, length}
 use Rattle.xor.specs.Sum.{Small}
-use Rattle.refusal.specs.Outcome.{Outcome, done, refused, test, and_then}
+use Rattle.refusal.specs.Outcome.{Outcome, done, test, and_then}
 use Rattle.refusal.specs.Range.{one_to}
 use Rattle.refusal.specs.Large.{test_below}
 use Rattle.steps.specs.Program.{Run}
@@ -10,22 +10,27 @@ use Rattle.steps.specs.Call as call
 use Rattle.steps.specs.Sharing.{share}
 use Rattle.steps.specs.Fill.{tabulate}
 use Rattle.steps.specs.Tape.{elements, bytes_for}
+use Rattle.decomposition.specs.Layout.{layout, Pair}
 use Rattle.decomposition.specs.Record.{coefficients_of, width_of, outputs_of, read_outcome, Accepted}
+use Rattle.decomposition.specs.declared.layouts.Layout.{Layout}
 use Rattle.sbox.specs.Sbox.{sbox}
 use Rattle.sbox.specs.Figures.{sbox_draws, sbox_steps}
 use Rattle.sbox.specs.Form.{basis_in, solution_in}
-use Rattle.sbox.specs.declared.arguments.Tested.{Tested}
-use Rattle.sbox.specs.declared.arguments.Tested.TheVariants.{Passed, Refused}
-use Rattle.sbox.specs.declared.substituting.SboxAnswer.{SboxAnswer}
-use Rattle.sbox.specs.declared.substituting.SboxAnswer.TheVariants.{Done as Sbox-as-Done, Refused as Sbox-as-Refused}
-use Rattle.sbox.specs.declared.watching.WatchAnswer.{WatchAnswer}
-use Rattle.sbox.specs.declared.watching.WatchAnswer.TheVariants.{Done as Watch-as-Done, Refused as Watch-as-Refused}
 
 -- ---- the steps of a call
 
 -- the masked S-box of the shares by the record's polynomials
 unfoldable pub call_program : List ℕ → ℕ → List ℕ → Run (List ℕ)
 call_program r s shares = sbox (width_of r) s (basis_in (width_of r) (outputs_of r) (coefficients_of r)) (solution_in (width_of r) (outputs_of r) (coefficients_of r)) shares
+
+-- For inner contracts. L is the layout of a pair of width and output bits,
+pub record OfPair (L : Layout) : Type 0 where
+  pub pair : Pair L.width L.outputs
+  pub layout_is : L ≡ layout L.width L.outputs
+
+-- and this the program by L and the coefficients of a record.
+abbrev pub layout_program : Layout → List ℕ → ℕ → List ℕ → Run (List ℕ)
+layout_program L cs s shares = sbox L.width s (basis_in L.width L.outputs cs) (solution_in L.width L.outputs cs) shares
 
 -- ---- the tests of both operations
 
@@ -72,11 +77,6 @@ sbox_outcome r s shares random out = call_outcome (sbox_call r s shares random) 
 unfoldable pub sbox_output : List ℕ → ℕ → List ℕ → List ℕ → List ℕ
 sbox_output r s shares random = tabulate s (share (call_result (sbox_call r s shares random)))
 
--- what each answer stands for
-abbrev pub sbox_report : SboxAnswer → Outcome
-sbox_report (Sbox-as-Done products random steps) = done (products ∷ random ∷ steps ∷ [])
-sbox_report (Sbox-as-Refused number place) = refused number place
-
 -- ---- Watch S-box (record, s, shares, random, list, values)
 
 -- the outcome, by the length of values
@@ -87,17 +87,7 @@ watch_outcome r s shares random list values = call.watch_outcome (sbox_call r s 
 unfoldable pub watch_output : List ℕ → ℕ → List ℕ → List ℕ → List ℕ → List ℕ
 watch_output r s shares random list = call.watch_output (sbox_call r s shares random) list
 
--- what each answer stands for
-abbrev pub watch_report : WatchAnswer → Outcome
-watch_report (Watch-as-Done products random steps) = done (products ∷ random ∷ steps ∷ [])
-watch_report (Watch-as-Refused number place) = refused number place
-
 -- ---- where the tests are passed
-
--- what the tests come to, as an outcome that hands on the width
-abbrev pub tested_report : Tested → Outcome
-tested_report (Passed width) = done (width ∷ [])
-tested_report (Refused number place) = refused number place
 
 -- two lists hold the same shares, 0 past either's end
 abbrev pub SameShares : List ℕ → List ℕ → Type 0

@@ -1,109 +1,66 @@
 // The tests that the S-box and its watch share.
-ghost use Rattle.std.specs.Prelude.{◌≡◌, [], ◌∷◌, ◌++◌, ◌^◌, ◌<◌, ◌≤◌, length};
-ghost use Rattle.refusal.specs.Outcome.{done, refused};
+ghost use Rattle.std.specs.Prelude.{◌≡◌, [], ◌∷◌, ◌++◌, ◌^◌, ◌<◌, ◌≤◌, length, IfOk};
+ghost use Rattle.refusal.specs.Outcome.{done};
 ghost use Rattle.refusal.specs.Large.{test_below};
-ghost use Rattle.decomposition.specs.Layout.{Known, Pair};
+ghost use Rattle.refusal.specs.Refusals.{report, nothing};
+ghost use Rattle.decomposition.specs.Layout.{Pair};
+ghost use Rattle.decomposition.specs.Record.{layout_of, coefficients_of};
 ghost use Rattle.steps.specs.Tape.{elements};
-ghost use Rattle.sbox.specs.Operations.{tested_report, sbox_lengths, tested_random, argument_tests, call_tests};
+ghost use Rattle.sbox.specs.Operations.{sbox_lengths, tested_random, call_tests};
 
-use crate::figures::{draw_count, order};
-use decomposition::{ReadAnswer, outputs_of, read};
-use refusal::{first_large, one_to};
-use steps::{bytes_for, element_count, first_large_element};
+use crate::figures::draw_count;
+use decomposition::{Layout, Record, read};
+use refusal::{Refusal, refuse_large, refuse_unless};
+use steps::{ShareCount, bytes_for, first_large_element};
 
-// What the tests come to: the record's width, or a refusal.
-#[derive(Clone, Copy)]
-pub enum Tested {
-    Passed { width: u32 },
-    Refused { number: u8, place: usize },
-}
-
-impl Tested {
-    // A refusal.
-    fn refuse(number: u8, place: usize) -> Tested
-        ensures { tested_report result ≡ refused number place }
-    {
-        Tested::Refused { number, place }
-    }
-}
-
-// All tests. `fits` says whether what is lent for output has its length.
-// `&rec[..]`, not `rec`: handed on as it came, the slice would first be copied in memory (docs/ENGINEERING.md, Speed).
-pub fn call_tests(rec: &[u8], s: u32, shares: &[u8], random: &[u8], fits: bool) -> Tested
-    ensures { tested_report result ≡ call_tests rec.now s shares.now random.now fits }
-{
-    let answer = read(&rec[..]);
-    match answer {
-        ReadAnswer::Refused { number, place } => Tested::refuse(number, place),
-        ReadAnswer::Done { width } => {
-            argument_tests(width, outputs_of(rec), s, shares, random, fits)
-        }
-    }
-}
-
-// The tests of the arguments at the width, with so many output bits.
-fn argument_tests(
-    width: u32,
-    outputs: u32,
+// All tests: they hand on the record and the share count. `fits` says whether what is lent for output has its length.
+pub fn accept<'a>(
+    bytes: &'a [u8],
     s: u32,
     shares: &[u8],
     random: &[u8],
     fits: bool,
-) -> Tested
-    requires { Pair width outputs }
-    ensures { tested_report result ≡ argument_tests width outputs s shares.now random.now fits }
+) -> Result<(Record<'a>, ShareCount), Refusal>
+    ensures outcome { report (λ a. a.0.layout.width ∷ []) result ≡ call_tests bytes.now s shares.now random.now fits }
+    ensures accepted { IfOk result (λ a. (a.0.layout ≡ layout_of bytes.now) × (a.0.coefficients.now ≡ coefficients_of bytes.now) × (a.1.count ≡ s)) }
 {
-    let count = s as usize;
-    if !one_to(9, count) {
-        return Tested::refuse(7, 0);
-    }
-    if !lengths_fit(width, outputs, count, shares.len(), random.len(), fits) {
-        return Tested::refuse(2, 0);
-    }
-    element_tests(width, shares, random)
+    let record = read(bytes)?;
+    let count = ShareCount::new(s)?;
+    refuse_unless(
+        lengths_fit(&record.layout, count, shares.len(), random.len(), fits),
+        Refusal::Length,
+    )?;
+    refuse_large_elements(&record.layout, shares, random)?;
+    Ok((record, count))
 }
 
 // Whether shares and random bytes, so many, are what so many shares take, and `fits` holds.
-fn lengths_fit(
-    width: u32,
-    outputs: u32,
-    count: usize,
-    shares: usize,
-    random: usize,
-    fits: bool,
-) -> bool
-    requires pair { Pair width outputs }
-    requires count_nonzero { (0 < count) × (count ≤ 9) }
-    ensures { result ≡ sbox_lengths width outputs count shares random fits }
+#[tactic(auto, unfolding(crate::specs::Operations::sbox_lengths))]
+fn lengths_fit(layout: &Layout, s: ShareCount, shares: usize, random: usize, fits: bool) -> bool
+    requires pair { Pair layout.now.width layout.now.outputs }
+    requires some { 0 < s.count }
+    ensures { result ≡ sbox_lengths layout.now.width layout.now.outputs s.count shares random fits }
 {
-    if shares != count {
-        return false;
-    }
-    let drawn = draw_count(width, outputs, count);
-    if random != bytes_for(width, drawn) {
-        return false;
-    }
-    fits
+    let bytes = bytes_for(layout.width, draw_count(layout, s));
+    shares == s.count && (random == bytes && fits)
 }
 
 // The test of the elements: the shares, then, but for width 4, the random elements.
-fn element_tests(width: u32, shares: &[u8], random: &[u8]) -> Tested
-    requires known { Known width }
-    requires shares_len_bound { (length shares.now ≤ 9) × (length (elements width random.now) ≤ 200) }
-    ensures { tested_report result
-        ≡ test_below (2 ^ width) 0 (shares.now ++ tested_random width random.now) (done (width ∷ [])) }
+fn refuse_large_elements(layout: &Layout, shares: &[u8], random: &[u8]) -> Result<(), Refusal>
+    requires inputs { (layout.now.inputs ≡ 2 ^ layout.now.width) × (layout.now.inputs < 256) }
+    requires lengths { (length shares.now ≤ 9) × (length (elements layout.now.width random.now) ≤ 200) }
+    ensures { report nothing result
+        ≡ test_below (2 ^ layout.now.width) 0 (shares.now ++ tested_random layout.now.width random.now) (done []) }
 {
-    let bound = order(width);
-    let first = first_large(bound, shares);
-    if first < shares.len() {
-        return Tested::refuse(3, first);
+    let bound = layout.inputs as u8;
+    refuse_large(bound, shares, 0)?;
+    if layout.width == 4 {
+        return Ok(());
     }
-    if width == 4 {
-        return Tested::Passed { width };
+    match first_large_element(layout.width, bound, random) {
+        Some(at) => Err(Refusal::Entry {
+            place: shares.len() + at,
+        }),
+        None => Ok(()),
     }
-    let second = first_large_element(width, bound, random);
-    if second < element_count(width, random) {
-        return Tested::refuse(3, first + second);
-    }
-    Tested::Passed { width }
 }

@@ -1,71 +1,128 @@
-// The steps of a call, from lent shares: for the S-box and its watch alike.
-ghost use Rattle.std.specs.Prelude.{◌≡◌, ◌≤◌, length};
-ghost use Rattle.steps.specs.Fill.{tabulate};
-ghost use Rattle.steps.specs.Sharing.{share};
+// The run of a call, for the S-box and its watch.
+ghost use Rattle.std.specs.Prelude.{◌≡◌, ◌≤◌, List, [], ℕ, length};
+ghost use Rattle.steps.specs.Machine.{start_of, Ready, Went, Whole};
+ghost use Rattle.steps.specs.Program.{result as result_of, trace};
+ghost use Rattle.steps.specs.Recorder.{AllBelow};
 ghost use Rattle.steps.specs.Tape.{elements};
-ghost use Rattle.steps.specs.Machine.{zero_counts, Went};
-ghost use Rattle.sbox.specs.Operations.{call_program, SameShares, Callable};
+ghost use Rattle.steps.specs.Watch.{watched};
+ghost use Rattle.sbox.specs.Operations.{OfPair, layout_program};
 
 use crate::evaluation::run;
-use decomposition::{head_of, outputs_of};
-use product::Masked;
-use steps::Counts;
+use decomposition::Record;
+use product::Sharing;
+use steps::machine::{Execution, Machine};
+use steps::recording::{Unwatched, Watch};
+use steps::{Counts, ShareCount};
 
-// The shares in nine places.
-fn nine(shares: &[u8]) -> [u8; 9]
-    requires { length shares.now ≤ 9 }
-    ensures { SameShares result shares.now }
+// The masked S-box of the shares that are lent.
+fn call<M: Machine>(
+    machine: &mut M,
+    s: ShareCount,
+    decomposition: Record<'_>,
+    shares: &[u8],
+) -> Sharing
+    requires of_pair { OfPair decomposition.layout }
+    requires few { length shares.now ≤ 9 }
+    requires ready { Ready (layout_program decomposition.layout decomposition.coefficients.now s.count shares.now) (M.state machine.old) }
+    ensures { Went (layout_program decomposition.entry.layout decomposition.entry.coefficients.now s.count shares.now)
+        (M.state machine.old) result (M.state machine.new) }
 {
-    let mut c = [0u8; 9];
-    let mut i = 0;
-    while i < shares.len() {
-        c[i] = shares[i];
-        i += 1;
-    }
-    c
+    let mut x = [0u8; 9];
+    x[..shares.len()].copy_from_slice(shares);
+    run(machine, s, decomposition, &x)
 }
 
-// The masked S-box of the shares by the record, under the watch list.
-pub fn call(
-    width: u32,
-    s: usize,
-    rec: &[u8],
+// A call that nobody watches, with random elements of so many bits.
+fn unwatched_at<const WIDTH: u32>(
+    s: ShareCount,
+    decomposition: Record<'_>,
     shares: &[u8],
     random: &[u8],
-    watch: &[u32],
-    values: &mut [u8],
-) -> Masked
-    requires callable { Callable width rec.now s shares.now random.now }
-    requires watch_len { length watch.now ≡ length values.old }
-    ensures { Went (elements width random.now) watch.now
-        (call_program rec.now s shares.now)
-        zero_counts values.old result.shares result.counts values.new }
+) -> (Sharing, Counts)
+    requires of_pair { OfPair decomposition.layout }
+    requires few { length shares.now ≤ 9 }
+    requires ready { Ready (layout_program decomposition.layout decomposition.coefficients.now s.count shares.now)
+        (start_of (elements WIDTH random.now) [] []) }
+    ensures { Whole (elements WIDTH random.now) (layout_program decomposition.entry.layout decomposition.entry.coefficients.now s.count shares.now) result.0 result.1 }
 {
-    let x = nine(shares);
-    let n = Counts::zero();
-    let outputs = outputs_of(rec);
-    let coefficients = &rec[head_of(rec)..];
-    run(
-        width,
-        outputs,
-        s,
-        coefficients,
-        &x,
-        random,
-        watch,
-        values,
-        n,
-    )
+    let mut machine = Execution::<WIDTH, Unwatched>::new(random, Unwatched);
+    let result = call(&mut machine, s, decomposition, shares);
+    (result, machine.counts)
 }
 
-// The first shares of c are copied out.
-pub fn copy_out(c: &[u8; 9], out: &mut [u8])
-    requires { length out.old ≤ 9 }
-    ensures { out.new ≡ tabulate (length out.old) (share c.now) }
+// A call that nobody watches: the shares of its result, and its counts.
+pub fn unwatched(
+    s: ShareCount,
+    decomposition: Record<'_>,
+    shares: &[u8],
+    random: &[u8],
+) -> (Sharing, Counts)
+    requires of_pair { OfPair decomposition.layout }
+    requires few { length shares.now ≤ 9 }
+    requires ready { Ready (layout_program decomposition.layout decomposition.coefficients.now s.count shares.now)
+        (start_of (elements decomposition.layout.width random.now) [] []) }
+    ensures { Whole (elements decomposition.entry.layout.width random.now)
+        (layout_program decomposition.entry.layout decomposition.entry.coefficients.now s.count shares.now) result.0 result.1 }
 {
-    let mut i = 0;
-    while i < out.len() {
-        out[i] = c[i];
-        i += 1;
+    if decomposition.layout.width == 4 {
+        unwatched_at::<4>(s, decomposition, shares, random)
+    } else {
+        unwatched_at::<6>(s, decomposition, shares, random)
+    }
+}
+
+// A call that is watched, with random elements of so many bits: the values at the steps of the list are written, and the counts handed back.
+fn watched_at<const WIDTH: u32>(
+    s: ShareCount,
+    decomposition: Record<'_>,
+    shares: &[u8],
+    random: &[u8],
+    list: &[u32],
+    values: &mut [u8],
+) -> Counts
+    requires of_pair { OfPair decomposition.layout }
+    requires few { (length shares.now ≤ 9) × (length list.now ≤ 64) × (length list.now ≡ length values.old) }
+    requires ready { (vs : List ℕ) → length list.now ≡ length vs
+        → Ready (layout_program decomposition.layout decomposition.coefficients.now s.count shares.now) (start_of (elements WIDTH random.now) list.now vs) }
+    requires below { AllBelow (length (trace (layout_program decomposition.layout decomposition.coefficients.now s.count shares.now) (elements WIDTH random.now))) list.now }
+    ensures counts { Whole (elements WIDTH random.now) (layout_program decomposition.entry.layout decomposition.entry.coefficients.now s.count shares.now)
+        (result_of (layout_program decomposition.entry.layout decomposition.entry.coefficients.now s.count shares.now) (elements WIDTH random.now)) result }
+    ensures values { values.new
+        ≡ watched list.now (trace (layout_program decomposition.entry.layout decomposition.entry.coefficients.now s.count shares.now) (elements WIDTH random.now)) }
+{
+    let mut machine = Execution::<WIDTH, Watch>::new(random, Watch::new(list));
+    call(&mut machine, s, decomposition, shares);
+    machine.recorder.copy_to(values);
+    machine.counts
+}
+
+// A call that is watched.
+pub fn watched(
+    s: ShareCount,
+    decomposition: Record<'_>,
+    shares: &[u8],
+    random: &[u8],
+    list: &[u32],
+    values: &mut [u8],
+) -> Counts
+    requires of_pair { OfPair decomposition.layout }
+    requires few { (length shares.now ≤ 9) × (length list.now ≤ 64) × (length list.now ≡ length values.old) }
+    requires ready { (vs : List ℕ) → length list.now ≡ length vs
+        → Ready (layout_program decomposition.layout decomposition.coefficients.now s.count shares.now)
+        (start_of (elements decomposition.layout.width random.now) list.now vs) }
+    requires below { AllBelow (length (trace (layout_program decomposition.layout decomposition.coefficients.now s.count shares.now)
+        (elements decomposition.layout.width random.now))) list.now }
+    ensures counts { Whole (elements decomposition.entry.layout.width random.now)
+        (layout_program decomposition.entry.layout decomposition.entry.coefficients.now s.count shares.now)
+        (result_of (layout_program decomposition.entry.layout decomposition.entry.coefficients.now s.count shares.now)
+        (elements decomposition.entry.layout.width random.now)) result }
+    ensures values { values.new
+        ≡ watched list.now (trace (layout_program decomposition.entry.layout decomposition.entry.coefficients.now s.count shares.now)
+        (elements decomposition.entry.layout.width random.now)) }
+{
+    if decomposition.layout.width == 4 {
+        watched_at::<4>(s, decomposition, shares, random, list, values)
+    } else {
+        watched_at::<6>(s, decomposition, shares, random, list, values)
     }
 }

@@ -1,53 +1,36 @@
 // The figures of the masked S-box of s shares.
-ghost use Rattle.std.specs.Prelude.{◌≡◌, ◌^◌, ◌<◌, ◌≤◌};
-ghost use Rattle.decomposition.specs.Layout.{Known, Pair};
-ghost use Rattle.sbox.specs.Form.{basis_size};
+ghost use Rattle.std.specs.Prelude.{◌≡◌, ◌<◌};
+ghost use Rattle.decomposition.specs.Layout.{Pair};
 ghost use Rattle.sbox.specs.Figures.{sbox_draws, sbox_steps};
 
-// How many elements there are at the width.
-pub fn order(width: u32) -> u8
-    requires { Known width }
-    ensures { result ≡ 2 ^ width }
-{
-    if width == 4 { 16 } else { 64 }
-}
-
-// How many polynomials the basis has at width 6.
-pub fn basis_size(outputs: u32) -> usize
-    requires { Pair 6 outputs }
-    ensures { result ≡ basis_size 6 outputs }
-{
-    if outputs == 6 { 3 } else { 2 }
-}
+use decomposition::Layout;
+use steps::ShareCount;
 
 // How many random elements the steps draw.
-pub fn draw_count(width: u32, outputs: u32, s: usize) -> usize
-    requires pair { Pair width outputs }
-    requires s_nonzero { (0 < s) × (s ≤ 9) }
-    ensures { result ≡ sbox_draws width outputs s }
+pub fn draw_count(layout: &Layout, s: ShareCount) -> usize
+    requires pair { Pair layout.now.width layout.now.outputs }
+    requires some { 0 < s.count }
+    ensures { result ≡ sbox_draws layout.now.width layout.now.outputs s.count }
 {
-    let ordered = s * (s - 1);
-    if width == 4 {
-        return ordered;
+    let ordered = s.count * (s.count - 1);
+    match (layout.width, layout.outputs) {
+        (4, _) => ordered,
+        (_, 6) => 5 * ordered / 2,
+        _ => 2 * ordered,
     }
-    if outputs == 6 {
-        return 5 * ordered / 2;
-    }
-    2 * ordered
 }
 
 // How many steps there are.
-pub fn step_count(width: u32, outputs: u32, s: u32) -> u32
-    requires pair { Pair width outputs }
-    requires s_nonzero { (0 < s) × (s ≤ 9) }
-    ensures { result ≡ sbox_steps width outputs s }
+pub fn step_count(layout: &Layout, s: ShareCount) -> u32
+    requires pair { Pair layout.now.width layout.now.outputs }
+    requires some { 0 < s.count }
+    ensures { result ≡ sbox_steps layout.now.width layout.now.outputs s.count }
 {
+    let s = s.count as u32;
     let ordered = s * (s - 1);
-    if width == 4 {
-        return 57 * s + 7 * ordered;
+    match (layout.width, layout.outputs) {
+        (4, _) => 57 * s + 7 * ordered,
+        (_, 6) => 275 * s + 35 * ordered / 2,
+        _ => 201 * s + 14 * ordered,
     }
-    if outputs == 6 {
-        return 275 * s + 35 * ordered / 2;
-    }
-    201 * s + 14 * ordered
 }

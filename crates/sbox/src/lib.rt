@@ -6,7 +6,6 @@ mod arguments;
 mod calling;
 mod evaluation;
 mod figures;
-mod partial;
 mod polynomial_rows;
 mod power_rows;
 mod product_rows;
@@ -15,5 +14,5 @@ pub mod substituting;
 pub mod watching;
 
 pub use evaluation::run;
-pub use substituting::{SboxAnswer, sbox};
-pub use watching::{WatchAnswer, watch_sbox};
+pub use substituting::sbox;
+pub use watching::watch_sbox;

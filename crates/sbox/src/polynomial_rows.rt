@@ -1,171 +1,90 @@
-// Polynomials of x, whose powers are the first rows. The coefficients are those of a record, polynomial after polynomial.
-ghost use Rattle.std.specs.Prelude.{◌+◌, ◌*◌, ◌<◌, ◌≤◌, length};
-ghost use Rattle.decomposition.specs.Layout.{Known};
-ghost use Rattle.steps.specs.Machine.{ReadySteps, WentSteps};
+// Polynomials of x, whose powers are the first rows.
+ghost use Rattle.std.specs.Prelude.{◌≡◌, ◌+◌, ◌*◌, ◌<◌, ◌≤◌, length, slice_index};
+ghost use Rattle.field.specs.Polynomial.{exponents};
+ghost use Rattle.steps.specs.Machine.{Ready, Went};
 ghost use Rattle.steps.specs.Program.{for};
+ghost use Rattle.product.specs.ByShare as by_share;
+ghost use Rattle.sbox.specs.Sbox as sbox;
 ghost use Rattle.sbox.specs.TableSteps as spec;
 
-use crate::partial::Partial;
+use crate::rows::Table;
+use field::Field;
+use product::{Sharing, constant};
+use steps::ShareCount;
+use steps::machine::Machine;
 
-// The term of row r of the polynomial at place p of the coefficients, for share i, is added to the sum u.
-fn term(
-    width: u32,
+// The term of row r, for share i, is added to the sum u.
+fn term<F: Field, M: Machine>(
+    machine: &mut M,
     coefficients: &[u8],
-    p: usize,
+    t: &Table,
     i: usize,
     r: usize,
-    watch: &[u32],
-    values: &mut [u8],
-    t: &[u8; 252],
-    u: Partial,
-) -> Partial
-    requires known { Known width }
-    requires r_bound { (r < 28) × (i < 9) × (p + (r + 1) < length coefficients.now) }
-    requires ready_steps { ReadySteps watch.now (spec.term_at width coefficients.now p i t.now r u.value) u.step values.old }
-    ensures { WentSteps watch.now
-        (spec.term_at width coefficients.now p i t.now r u.value)
-        u.step values.old result.value result.step values.new }
+    u: u8,
+) -> u8
+    requires bounds { (i < 9) × (r < 25) × (r + 1 < length coefficients.now) }
+    requires ready { Ready (sbox.term F.WIDTH coefficients.now t.now i r u) (M.state machine.old) }
+    ensures { Went (sbox.term F.WIDTH coefficients.now t.now i r u) (M.state machine.old) result (M.state machine.new) }
 {
-    let v = field::mul(width, coefficients[p + (r + 1)], t[9 * r + i]);
-    let x = u.value ^ v;
-    let next = steps::record_all(watch, values, u.step, &[v, x]);
-    Partial {
-        value: x,
-        step: next,
-    }
+    let v = F::multiply(coefficients[r + 1], t[r][i]);
+    let sum = u ^ v;
+    machine.record_all(&[v, sum]);
+    sum
 }
 
-// The k terms of the polynomial at place p of the coefficients, for share i, are added to the sum u.
-fn terms(
-    width: u32,
-    k: usize,
+// Share i of a polynomial: the constant, and a term for each power.
+fn polynomial_share<F: Field, const POWERS: usize, M: Machine>(
+    machine: &mut M,
     coefficients: &[u8],
-    p: usize,
+    t: &Table,
     i: usize,
-    watch: &[u32],
-    values: &mut [u8],
-    t: &[u8; 252],
-    u: Partial,
-) -> Partial
-    requires known { Known width }
-    requires k_bound { (k ≤ 18) × (i < 9) × (p + k < length coefficients.now) }
-    requires ready_steps { ReadySteps watch.now (for 0 k (spec.term_at width coefficients.now p i t.now) u.value) u.step values.old }
-    ensures { WentSteps watch.now
-        (for 0 k (spec.term_at width coefficients.now p i t.now) u.value)
-        u.step values.old result.value result.step values.new }
+) -> u8
+    requires bounds { (i < 9) × (POWERS ≤ 18) × (length coefficients.now ≡ POWERS + 1) }
+    requires ready { Ready (for 0 POWERS (sbox.term F.WIDTH coefficients.now t.now i) (by_share.constant i (slice_index coefficients.now 0))) (M.state machine.old) }
+    ensures { Went (for 0 POWERS (sbox.term F.WIDTH coefficients.now t.now i) (by_share.constant i (slice_index coefficients.now 0))) (M.state machine.old) result (M.state machine.new) }
 {
-    let mut u = u;
-    let mut r = 0;
-    while r < k {
-        u = term(width, coefficients, p, i, r, watch, &mut *values, t, u);
-        r += 1;
+    let mut u = constant(i, coefficients[0]);
+    for r in 0..POWERS {
+        u = term::<F, M>(machine, coefficients, t, i, r, u);
     }
     u
 }
 
-// Share i of the polynomial at place p of the coefficients goes to row z.
-fn polynomial_share(
-    width: u32,
-    k: usize,
+// A polynomial, share by share.
+fn polynomial<F: Field, const POWERS: usize, M: Machine>(
+    machine: &mut M,
+    s: ShareCount,
     coefficients: &[u8],
-    p: usize,
-    z: usize,
-    i: usize,
-    watch: &[u32],
-    values: &mut [u8],
-    t: &mut [u8; 252],
-    n: u32,
-) -> u32
-    requires known { Known width }
-    requires z_bound { (z < 28) × (k ≤ 18) × (i < 9) × (p + k < length coefficients.now) }
-    requires ready_steps { ReadySteps watch.now (spec.polynomial_share width k coefficients.now p z i t.old) n values.old }
-    ensures { WentSteps watch.now
-        (spec.polynomial_share width k coefficients.now p z i t.old)
-        n values.old t.new result values.new }
+    t: &Table,
+) -> Sharing
+    requires powers { (POWERS ≤ 18) × (length (exponents F.WIDTH) ≡ POWERS + 1) × (length coefficients.now ≡ POWERS + 1) }
+    requires ready { Ready (sbox.polynomial F.WIDTH s.count t.now coefficients.now) (M.state machine.old) }
+    ensures { Went (sbox.polynomial F.WIDTH s.count t.now coefficients.now) (M.state machine.old) result (M.state machine.new) }
 {
-    let c = product::constant(i, coefficients[p]);
-    let u = Partial { value: c, step: n };
-    let u = terms(width, k, coefficients, p, i, watch, values, &*t, u);
-    let v = u.value;
-    t[9 * z + i] = v;
-    u.step
-}
-
-// Polynomial j, with k terms, goes to row k + j.
-fn polynomial(
-    width: u32,
-    k: usize,
-    s: usize,
-    coefficients: &[u8],
-    j: usize,
-    watch: &[u32],
-    values: &mut [u8],
-    t: &mut [u8; 252],
-    n: u32,
-) -> u32
-    requires known { Known width }
-    requires s_bound { (s ≤ 9) × (k ≤ 18) × (k + j < 28) × (j * (k + 1) + k < length coefficients.now) }
-    requires ready_steps { ReadySteps watch.now (spec.polynomial_row width k s coefficients.now j t.old) n values.old }
-    ensures { WentSteps watch.now
-        (spec.polynomial_row width k s coefficients.now j t.old)
-        n values.old t.new result values.new }
-{
-    let p = j * (k + 1);
-    let z = k + j;
-    let mut next = n;
-    let mut i = 0;
-    while i < s {
-        next = polynomial_share(
-            width,
-            k,
-            coefficients,
-            p,
-            z,
-            i,
-            watch,
-            &mut *values,
-            &mut *t,
-            next,
-        );
-        i += 1;
+    let mut c = [0u8; 9];
+    for i in 0..s.count {
+        c[i] = polynomial_share::<F, POWERS, M>(machine, coefficients, t, i);
     }
-    next
+    c
 }
 
-// The first `count` polynomials.
-pub fn polynomials(
-    width: u32,
-    k: usize,
-    s: usize,
+// The first `count` of the polynomials whose coefficients lie one after the other go to the rows from z on.
+pub fn polynomials<F: Field, const POWERS: usize, M: Machine>(
+    machine: &mut M,
+    s: ShareCount,
     coefficients: &[u8],
     count: usize,
-    watch: &[u32],
-    values: &mut [u8],
-    t: &mut [u8; 252],
-    n: u32,
-) -> u32
-    requires known { Known width }
-    requires s_bound { (s ≤ 9) × (k ≤ 18) × (k + count ≤ 28) × (count * (k + 1) ≤ length coefficients.now) }
-    requires ready_steps { ReadySteps watch.now (for 0 count (spec.polynomial_row width k s coefficients.now) t.old) n values.old }
-    ensures { WentSteps watch.now
-        (for 0 count (spec.polynomial_row width k s coefficients.now) t.old)
-        n values.old t.new result values.new }
+    z: usize,
+    t: &mut Table,
+)
+    requires powers { (POWERS ≤ 18) × (length (exponents F.WIDTH) ≡ POWERS + 1) }
+    requires bounds { (z + count ≤ 25) × (count * (POWERS + 1) ≤ length coefficients.now) }
+    requires ready { Ready (for 0 count (spec.polynomial_row F.WIDTH s.count (POWERS + 1) coefficients.now z) t.old) (M.state machine.old) }
+    ensures { Went (for 0 count (spec.polynomial_row F.WIDTH s.count (POWERS + 1) coefficients.now z) t.old) (M.state machine.old) t.new (M.state machine.new) }
 {
-    let mut next = n;
-    let mut j = 0;
-    while j < count {
-        next = polynomial(
-            width,
-            k,
-            s,
-            coefficients,
-            j,
-            watch,
-            &mut *values,
-            &mut *t,
-            next,
-        );
-        j += 1;
+    for j in 0..count {
+        let first = j * (POWERS + 1);
+        let own = &coefficients[first..first + POWERS + 1];
+        t[z + j] = polynomial::<F, POWERS, M>(machine, s, own, t);
     }
-    next
 }

@@ -1,4 +1,5 @@
 // The values of the example. None of the masks and random elements is random: they show the layout and nothing more.
+use std::array;
 
 // How many shares the example uses.
 pub const SHARES: u32 = 3;
@@ -42,14 +43,7 @@ pub const AES_PUBLISHED: [u8; 16] = [
     0x69, 0xc4, 0xe0, 0xd8, 0x6a, 0x7b, 0x04, 0x30, 0xd8, 0xcd, 0xb7, 0x80, 0x70, 0xb4, 0xc5, 0x5a,
 ];
 
-// An example byte in place of random byte i: a plain pattern, so that nobody takes it for a random one.
-fn byte(i: usize) -> u8 {
-    ((i % 256 * 7 + 3) % 256) as u8
-}
-
-// Fills the bytes that stand for random ones, as the library takes no randomness by itself.
-pub fn fill(out: &mut [u8]) {
-    for (i, place) in out.iter_mut().enumerate() {
-        *place = byte(i);
-    }
+// Bytes that stand for random ones, as the library takes no randomness by itself: a plain pattern, so that nobody takes it for a random one.
+pub fn bytes<const N: usize>() -> [u8; N] {
+    array::from_fn(|i| ((i % 256 * 7 + 3) % 256) as u8)
 }

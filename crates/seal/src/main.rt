@@ -4,14 +4,17 @@
 mod aes_sealing;
 mod example;
 mod fitting;
+mod inputs;
 mod opening;
-mod refusing;
+mod parts;
 mod sealing;
 mod sharing;
-mod text;
+mod showing;
 mod unmasked;
 mod watching;
 
+use inputs::Inputs;
+use parts::end_part;
 use std::io;
 
 // Says what the page is, and what in it must not be copied.
@@ -23,19 +26,24 @@ fn open_page(rt: &impl Print) -> io::Result<()> {
     println!(rt; "never be used.")
 }
 
-// A part that is refused says so and stops; the parts after it then answer to what it left.
+// Where a part is refused, the parts after it go on with what it left.
 fn main(rt: HostRuntime) -> io::Result<()> {
     let mut record = [0u8; 34];
     let mut key = [0u8; 30];
     let mut block = [0u8; 24];
-    let mut random = [0u8; 1581];
+    let random = example::bytes::<1581>();
     open_page(&rt)?;
-    fitting::part(&rt, &mut record)?;
-    sharing::part(&rt, &mut key, &mut block)?;
-    example::fill(&mut random);
-    sealing::part(&rt, &record, &key, &block, &random)?;
-    watching::part(&rt, &record, &key, &block, &random)?;
-    aes_sealing::part(&rt)?;
-    unmasked::part(&rt)?;
-    opening::part(&rt, &record, &key)
+    end_part(&rt, fitting::part(&rt, &mut record))?;
+    end_part(&rt, sharing::part(&rt, &mut key, &mut block))?;
+    let inputs = Inputs {
+        record: &record,
+        key: &key,
+        block: &block,
+        random: &random,
+    };
+    end_part(&rt, sealing::part(&rt, inputs))?;
+    end_part(&rt, watching::part(&rt, inputs))?;
+    end_part(&rt, aes_sealing::part(&rt))?;
+    end_part(&rt, unmasked::part(&rt))?;
+    end_part(&rt, opening::part(&rt, &record, &key))
 }

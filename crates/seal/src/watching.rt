@@ -1,66 +1,13 @@
 // Part 4: a few steps watched.
-use crate::refusing::refused;
-use crate::{example, text};
-use cipher::{WatchAnswer, watch_block};
+use crate::example::WATCHED;
+use crate::inputs::Inputs;
+use crate::parts::{PartError, named};
 use std::io;
 
-// Watches the steps of a list, and answers whether there are values to show.
-fn watched(
-    rt: &impl Print,
-    record: &[u8],
-    key: &[u8],
-    shares: &[u8],
-    random: &[u8],
-    list: &[u32],
-    values: &mut [u8],
-) -> io::Result<bool> {
-    let answer = watch_block(record, example::SHARES, key, shares, random, list, values);
-    match answer {
-        WatchAnswer::Done {
-            products: _,
-            random: _,
-            steps: _,
-        } => Ok(true),
-        WatchAnswer::Refused { number, place } => {
-            refused(rt, "Watch block", number, place)?;
-            Ok(false)
-        }
-    }
-}
-
-// A step number as a number to print.
-fn long(step: u32) -> u64 {
-    step as u64
-}
-
-// Prints the value that a step records and the step's number. The value comes first, as it is always one digit.
-fn show_step(rt: &impl Print, step: u32, value: u8) -> io::Result<()> {
-    print!(rt; "    value ")?;
-    text::print_nibble(rt, value)?;
-    text::print_count(rt, "  at step ", long(step))
-}
-
-// Prints each step of a list beside its value.
+// Prints each step of a list beside the value that it records. The value comes first, as it is always one digit.
 fn show_steps(rt: &impl Print, list: &[u32], values: &[u8]) -> io::Result<()> {
     for (step, value) in list.iter().zip(values) {
-        show_step(rt, *step, *value)?;
-    }
-    Ok(())
-}
-
-// Watches the steps of a list and prints their values.
-fn show_watched(
-    rt: &impl Print,
-    record: &[u8],
-    key: &[u8],
-    shares: &[u8],
-    random: &[u8],
-    list: &[u32],
-    values: &mut [u8],
-) -> io::Result<()> {
-    if watched(rt, record, key, shares, random, list, &mut *values)? {
-        show_steps(rt, list, values)?;
-        judge_steps(rt)?;
+        println!(rt; "    value {value:x}  at step {step}")?;
     }
     Ok(())
 }
@@ -83,16 +30,13 @@ fn judge_steps(rt: &impl Print) -> io::Result<()> {
 }
 
 // Shows what a probe on a few wires sees of the same run.
-pub fn part(
-    rt: &impl Print,
-    record: &[u8; 34],
-    key: &[u8],
-    shares: &[u8],
-    random: &[u8],
-) -> io::Result<()> {
-    let list = example::WATCHED;
+pub fn part(rt: &impl Print, inputs: Inputs) -> Result<(), PartError> {
+    let list = WATCHED;
     let mut values = [0u8; 7];
     println!(rt; "\n4. A few steps watched\n")?;
     name_steps(rt)?;
-    show_watched(rt, record, key, shares, random, &list, &mut values)
+    named("Watch block", inputs.watch(&list, &mut values))?;
+    show_steps(rt, &list, &values)?;
+    judge_steps(rt)?;
+    Ok(())
 }

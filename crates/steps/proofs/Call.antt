@@ -17,11 +17,11 @@ use Rattle.steps.specs.Choices.{Fits}
 use Rattle.steps.specs.Shape.{Shape, bits_of, steps_of, draws_of, products_of, Shaped}
 use Rattle.steps.specs.Recorder.{AllBelow}
 use Rattle.steps.specs.Tape.{bytes_for}
-use Rattle.steps.specs.Machine.{zero_counts, Ready, Went, Whole}
+use Rattle.steps.specs.Machine.{State, start_of, Ready, Went, Whole}
 use Rattle.steps.specs.Call.{Call, tape_of, call_counts, call_outcome, call_result, watch_outcome, watch_output, Takes, figures_of}
 use Rattle.steps.proofs.Shape.{shaped_steps, shaped_draws, shaped_products}
 use Rattle.steps.proofs.Tape.{elements_enough}
-use Rattle.steps.proofs.Machine.{went_watched}
+use Rattle.steps.proofs.Exec.{went_watched}
 use Rattle.steps.proofs.Parts.{ready_whole}
 
 -- ---- what it takes
@@ -38,7 +38,7 @@ takes_shape h tape f ep ed ek = record {
 module _ (c : Call) {p d k : ℕ} (t : Takes c.program (tape_of c) p d k) where
   -- there is room for it
   pub call_ready : {watch vs : List ℕ} → p < 2 ^ 64 → d < 2 ^ 64 → k < 2 ^ 32 → length c.random ≡ bytes_for c.width d
-      → length watch ≡ length vs → Ready (tape_of c) watch c.program zero_counts vs
+      → length watch ≡ length vs → Ready c.program (start_of (tape_of c) watch vs)
   call_ready fp fd fk e l =
       ready_whole c.program t.products_are t.draws_are t.steps_are fp fd fk (elements_enough c.width c.random d e) l
 
@@ -48,8 +48,8 @@ module _ (c : Call) {p d k : ℕ} (t : Takes c.program (tape_of c) p d k) where
   counts_taken = rw (t.products_are, t.draws_are, t.steps_are)
 
   -- what a watch leaves, where each number of the list is that of a step
-  pub call_watched : {list vs x vs' : List ℕ} {n : Counts} → 0 < k → length list ≡ length vs → length list ≤ first_large k list
-      → Went (tape_of c) list c.program zero_counts vs x n vs' → vs' ≡ watch_output c list
+  pub call_watched : {list vs x : List ℕ} {s : State} → 0 < k → length list ≡ length vs → length list ≤ first_large k list
+      → Went c.program (start_of (tape_of c) list vs) x s → s.values ≡ watch_output c list
   unfolding watch_output
   call_watched {list} some e below w = went_watched w e (rw t.steps_are (all_below list (all_small k list some below)))
     where

@@ -1,12 +1,13 @@
 -- The laws of lists given by a function, and of buffers that are filled.
-use mathlib.Core.Path.{◌≡◌, refl, ap, ap₂, ◌∙◌}
-use mathlib.Core.List.{List, [], ◌∷◌, ◌++◌, append-nil, append_assoc}
+use mathlib.Core.Path.{◌≡◌, refl, sym, ap, ap₂, ◌∙◌}
+use mathlib.Core.List.{List, [], ◌∷◌, ◌++◌, reverse, append-nil, append_assoc}
 use Prim.Native.Nat.{ℕ, zero, suc, ◌+◌, ◌-◌, ◌≤◌, ◌<◌}
 use native.Mathlib.Nat.{not-suc-le-zero, le_of_suc-le-suc}
 use native.Mathlib.Numerals.{add-one}
 use native.Mathlib.Omega.{arith}
 use lib.ListN.{length, get_or, drop, set, length-append, length-drop, drop_of_length-le, get_or-append}
-use lib.Seq.{drop-cons, set_at, take_at, take-length, paste, get_or-append-add, get_or-drop}
+use lib.Seq.{drop-cons, set_at, get_or-append-add, get_or-drop}
+use Rattle.std.proofs.lemmas.List.{length-reverse, get_or-reverse}
 use Rattle.steps.specs.Fill.{tabulate, fill}
 
 module _ {B : Type 0} where
@@ -39,6 +40,16 @@ module _ {B : Type 0} where
   tabulate_last zero f = refl
   tabulate_last (suc n) f = ap (λ (l : List B). f 0 ∷ l) (tabulate_last n (λ i. f (suc i)))
 
+-- the last element first
+pub reverse_tabulate : (n : ℕ) (f : ℕ → ℕ) → reverse (tabulate n f) ≡ tabulate n (λ i. f (n - 1 - i))
+reverse_tabulate n f =
+    let l = tabulate n f in
+    let size : length l ≡ n = length_tabulate n f in
+    let whole : length (reverse l) ≡ n = length-reverse l ∙ size in
+    sym (rw whole at (tabulate_get_or (reverse l) 0))
+    ∙ tabulate_same n (λ i. get_or (reverse l) i 0) (λ i. f (n - 1 - i))
+    (λ i h. get_or-reverse l i 0 (omega arith) ∙ ap (λ (m : ℕ). get_or l (m - 1 - i) 0) size ∙ get_d_tabulate n f (n - 1 - i) 0 (omega arith))
+
 -- ---- a buffer that is filled from its start, one element a turn
 
 pub length_fill : (n : ℕ) (f : ℕ → ℕ) (l : List ℕ) → n ≤ length l → length (fill n f l) ≡ length l
@@ -49,6 +60,10 @@ pub fill_none : (f : ℕ → ℕ) (l : List ℕ) → l ≡ fill 0 f l
 unfolding fill tabulate
 fill_none f l = refl
 
+pub fill_first : (f : ℕ → ℕ) {v : ℕ} (l : List ℕ) → v ≡ f 0 → v ∷ l ≡ fill 1 f (v ∷ l)
+unfolding fill tabulate
+fill_first f {v} l e = ap (λ (x : ℕ). x ∷ l) e
+
 pub fill_more : (n : ℕ) (f : ℕ → ℕ) (l : List ℕ) → n < length l → set (fill n f l) n (f n) ≡ fill (n + 1) f l
 unfolding fill
 fill_more n f l h =
@@ -57,6 +72,10 @@ fill_more n f l h =
 pub fill_all : (n : ℕ) (f : ℕ → ℕ) (l : List ℕ) → length l ≤ n → fill n f l ≡ tabulate n f
 unfolding fill
 fill_all n f l h = rw (drop_of_length-le l h, append-nil)
+
+-- a buffer of n bytes that a loop has filled to i, where the loop has ended
+pub filled : {n i : ℕ} (f : ℕ → ℕ) {l : List ℕ} (m : List ℕ) → l ≡ fill i f m → length m ≡ n → i ≡ n → l ≡ tabulate n f
+filled {n = n} f m e h g = e ∙ ap (λ (j : ℕ). fill j f m) g ∙ fill_all n f m (omega arith)
 
 -- what stands at a place of a buffer that is filled to n
 pub get_or_fill : (n : ℕ) (f : ℕ → ℕ) (l : List ℕ) (i d : ℕ) → i < n → get_or (fill n f l) i d ≡ f i
@@ -73,10 +92,3 @@ get_or_fill_past n f l i d h =
     ∙ get_or-append-add (tabulate n f) (drop n l) (i - n) d
     ∙ get_or-drop n l (i - n) d
     ∙ ap (λ (p : ℕ). get_or l p d) back
-
--- a buffer that is filled to n, and whose rest is a copy of another list
-pub fill_paste : (n : ℕ) (f : ℕ → ℕ) (l m : List ℕ) → n + length m ≡ length l → paste (fill n f l) n m (length m) ≡ tabulate n f ++ m
-unfolding fill
-fill_paste n f l m e =
-    let short : length (tabulate n f ++ drop n l) ≤ n + length m = simp (length-append, length_tabulate, length-drop) (omega arith) in
-    rw (take_at (tabulate n f) (drop n l) n (length_tabulate n f), take-length m, drop_of_length-le (tabulate n f ++ drop n l) short, append-nil)

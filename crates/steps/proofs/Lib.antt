@@ -14,9 +14,8 @@ pub mod Secrecy
 pub mod TwoSecrets
 pub mod Recorder
 pub mod Tape
-pub mod Machine
+pub mod Exec
 pub mod Parts
-pub mod StepsAlone
 pub mod Call
 pub mod Loop
 pub mod Bytes

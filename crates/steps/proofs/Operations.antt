@@ -4,6 +4,7 @@ use mathlib.Core.Bool.{true, and-eq-true_iff}
 use mathlib.Core.List.{List, [], ◌∷◌, ◌++◌}
 use Prim.Native.Nat.{ℕ, zero, suc, ◌+◌, ◌-◌, ◌*◌, ◌≤◌, ◌<◌}
 use native.Mathlib.Nat.{suc-mul, add_assoc, not-suc-le-zero, mul-le-mul}
+use native.Mathlib.Numerals.{add-one}
 use native.Mathlib.Omega.{arith}
 use borrow.Author.Tests.{eqb-true, eq-eqb, le-leb}
 use lib.Dec.{eqb}
@@ -11,6 +12,7 @@ use lib.ListN.{length, get_or, length-append, get_or-append}
 use lib.Seq.{get_or-append-add}
 use Rattle.xor.specs.Xor.{◌⊕◌}
 use Rattle.xor.specs.Sum.{join}
+use Rattle.xor.proofs.Xor.{⊕-zero, zero_⊕, ⊕-assoc}
 use Rattle.xor.proofs.Sum.{join_nil, join_cons, join_split}
 use Rattle.refusal.specs.Outcome.{done}
 use Rattle.refusal.specs.Range.{one_to}
@@ -36,16 +38,25 @@ column_append a l n j zero = refl
 column_append a l n j (suc k) =
     ap₂ (λ (x : ℕ) (c : List ℕ). x ∷ c) (get_or-append-add a l j 0) (rw add_assoc (column_append a l n (j + n) k))
 
--- one turn of the loop that adds a column up, and its end
-pub column_turn : (l : List ℕ) (n at k : ℕ) → 0 < k → join (column l n at k) ≡ get_or l at 0 ⊕ join (column l n (at + n) (k - 1))
+-- the sum of a column, and of the column that has one byte more
+pub column_none : (l : List ℕ) (n at : ℕ) → join (column l n at 0) ≡ 0
 unfolding column
-column_turn l n at zero h = absurd (not-suc-le-zero h)
-column_turn l n at (suc k) h = let e : suc k - 1 ≡ k = omega arith in rw e (join_cons (get_or l at 0) (column l n (at + n) k))
+column_none l n at = join_nil
 
-pub column_end : (l : List ℕ) (n at k : ℕ) → k ≤ 0 → join (column l n at k) ≡ 0
+pub column_more : (l : List ℕ) (n at k : ℕ) → join (column l n at (k + 1)) ≡ join (column l n at k) ⊕ get_or l (at + k * n) 0
 unfolding column
-column_end l n at zero h = join_nil
-column_end l n at (suc k) h = absurd (omega arith)
+column_more l n at k = rw (add-one k) (go at k)
+  where
+    go : (at k : ℕ) → join (column l n at (suc k)) ≡ join (column l n at k) ⊕ get_or l (at + k * n) 0
+    go at zero =
+        let here : at + 0 * n ≡ at = omega arith in
+        rw (here, join_cons (get_or l at 0) [], join_nil) (⊕-zero (get_or l at 0) ∙ sym (zero_⊕ (get_or l at 0)))
+    go at (suc k) =
+        let next : at + n + k * n ≡ at + suc k * n = rw (suc-mul k n) (omega arith) in
+        join_cons (get_or l at 0) (column l n (at + n) (suc k))
+        ∙ ap (λ (x : ℕ). get_or l at 0 ⊕ x) (go (at + n) k)
+        ∙ sym (⊕-assoc (get_or l at 0) (join (column l n (at + n) k)) (get_or l (at + n + k * n) 0))
+        ∙ ap₂ ◌⊕◌ (sym (join_cons (get_or l at 0) (column l n (at + n) k))) (ap (λ (p : ℕ). get_or l p 0) next)
 
 -- ---- what Split writes
 
@@ -99,6 +110,14 @@ split_lengths_lem n s masks out e =
     let value = (and-eq-true_iff (one_to 16 n) _).0 e in
     let rest = (and-eq-true_iff (eqb masks ((s - 1) * n)) _).0 value.1 in
     (value.0, eqb-true _ _ rest.0, eqb-true _ _ rest.1)
+
+-- so what the shares are written to is as long as the value and the masks
+pub split_fits : {n s masks out : ℕ} → one_to 9 s ≡ true → split_lengths n s masks out ≡ true
+    → (1 ≤ s) × (n ≤ 16) × ((s - 1) * n ≡ masks) × (n + masks ≡ out)
+split_fits {n} {s} {masks} {out} count e =
+    let h = split_lengths_lem n s masks out e in
+    let some = (one_to_range 9 s count).0 in
+    (some, (one_to_range 16 n h.0).1, sym h.1, omega (arith, h.1, h.2, times_turn s n some))
 
 split_lengths_right : (n s masks out : ℕ) → one_to 16 n ≡ true → masks ≡ (s - 1) * n → out ≡ s * n → split_lengths n s masks out ≡ true
 unfolding split_lengths

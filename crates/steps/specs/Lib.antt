@@ -11,6 +11,7 @@ pub mod TwoSecrets
 pub mod Recorder
 pub mod Tape
 pub mod Machine
+pub mod Taken
 pub mod Call
 pub mod Alike
 pub mod Loop

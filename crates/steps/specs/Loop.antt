@@ -1,12 +1,10 @@
--- For inner contracts only. Loops: the invariant of every loop that runs a program at each number from i₀ up to s.
-use Rattle.std.specs.Prelude.{◌≡◌, List, ℕ, ◌≤◌, length}
-use Rattle.steps.specs.declared.counts.Counts.{Counts}
+-- For inner contracts only. Loops: the invariant of every loop that runs a program at each number from i₀ up to n.
+use Rattle.std.specs.Prelude.{◌≡◌, ℕ, ◌≤◌}
 use Rattle.steps.specs.Program.{Run, for}
-use Rattle.steps.specs.Machine.{exec}
+use Rattle.steps.specs.Machine.{State, exec, After}
 
--- The loop has come to i with a, the counts n and the values vs: run from here on, what is left of it ends where the whole does.
-pub record Going {A : Type 0} (tape watch : List ℕ) (f : ℕ → A → Run A) (i₀ s : ℕ) (a₀ : A) (n₀ : Counts) (vs₀ : List ℕ)
-    (i : ℕ) (a : A) (n : Counts) (vs : List ℕ) : Type 0 where
+-- The loop, begun at i₀ with a₀ in the state s₀, has come to i with a in the state s: run from here on, what is left of it ends where the whole does.
+pub record Going {A : Type 0} (f : ℕ → A → Run A) (i₀ n : ℕ) (a₀ : A) (s₀ : State) (i : ℕ) (a : A) (s : State) : Type 0 where
   pub begun : i₀ ≤ i
-  pub same_places : length vs ≡ length vs₀
-  pub runs : exec tape watch (for i₀ s f a₀) n₀ vs₀ ≡ exec tape watch (for i s f a) n vs
+  pub after : After s₀ s
+  pub runs : exec (for i₀ n f a₀) s₀ ≡ exec (for i n f a) s

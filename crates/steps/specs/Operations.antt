@@ -2,11 +2,7 @@
 use Rattle.std.specs.Prelude.{Bool, ◌&&◌, List, [], ◌∷◌, ◌++◌, ℕ, zero, suc, ◌+◌, ◌-◌, ◌*◌, eqb, length, get_or}
 use Rattle.xor.specs.Xor.{◌⊕◌}
 use Rattle.xor.specs.Sum.{join}
-use Rattle.steps.specs.declared.splitting.SplitAnswer.{SplitAnswer}
-use Rattle.steps.specs.declared.splitting.SplitAnswer.TheVariants.{Done as Split-as-Done, Refused as Split-as-Refused}
-use Rattle.steps.specs.declared.joining.JoinAnswer.{JoinAnswer}
-use Rattle.steps.specs.declared.joining.JoinAnswer.TheVariants.{Done as Join-as-Done, Refused as Join-as-Refused}
-use Rattle.refusal.specs.Outcome.{Outcome, done, refused, test}
+use Rattle.refusal.specs.Outcome.{Outcome, done, test}
 use Rattle.refusal.specs.Range.{one_to}
 use Rattle.steps.specs.Fill.{tabulate}
 
@@ -36,11 +32,6 @@ split_outcome value s masks out =
     (test (split_lengths value s masks out) 2 0
     (done []))
 
--- what each answer stands for
-abbrev pub split_report : SplitAnswer → Outcome
-split_report Split-as-Done = done []
-split_report (Split-as-Refused number place) = refused number place
-
 -- ---- Join (shares, s, out): it adds the shares; out has the value's length
 
 -- byte j of the value: the sum of that of each of s shares of n bytes
@@ -61,8 +52,3 @@ join_outcome shares s out =
     test (one_to 9 s) 7 0
     (test (join_lengths shares s out) 2 0
     (done []))
-
--- what each answer stands for
-abbrev pub join_report : JoinAnswer → Outcome
-join_report Join-as-Done = done []
-join_report (Join-as-Refused number place) = refused number place

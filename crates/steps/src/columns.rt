@@ -9,12 +9,8 @@ pub fn column_sum(l: &[u8], n: usize, j: usize, k: usize) -> u8
     ensures { result ≡ join (column l.now n j k) }
 {
     let mut sum = 0u8;
-    let mut at = j;
-    let mut left = k;
-    while 0 < left {
-        sum = sum ^ l[at];
-        at += n;
-        left -= 1;
+    for i in 0..k {
+        sum ^= l[j + i * n];
     }
     sum
 }

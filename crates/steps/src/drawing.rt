@@ -1,6 +1,6 @@
 // Random elements: the one place where it is known how they lie in the lent bytes.
 ghost use Rattle.std.specs.Prelude.{◌≡◌, false, cond, ◌<◌, eqb, length, get_or};
-ghost use Rattle.refusal.specs.Large.{first_large};
+ghost use Rattle.refusal.specs.Large.{first_large, found};
 ghost use Rattle.steps.specs.Tape.{elements, bytes_for};
 
 // How many random elements of `width` bits lie in a byte besides the first.
@@ -39,18 +39,10 @@ pub fn bytes_for(width: u32, count: usize) -> usize
     }
 }
 
-// How many random elements of `width` bits the bytes hold, where each holds one.
-pub fn element_count(width: u32, random: &[u8]) -> usize
+// The place of the first random element that is not below the bound, if there is one, where each byte holds one.
+pub fn first_large_element(width: u32, bound: u8, random: &[u8]) -> Option<usize>
     requires { eqb width 4 ≡ false }
-    ensures { result ≡ length (elements width random.now) }
-{
-    random.len()
-}
-
-// The place of the first random element that is not below the bound, or their number if there is none, where each byte holds one.
-pub fn first_large_element(width: u32, bound: u8, random: &[u8]) -> usize
-    requires { eqb width 4 ≡ false }
-    ensures { result ≡ first_large bound (elements width random.now) }
+    ensures { result ≡ found (first_large bound (elements width random.now)) (length (elements width random.now)) }
 {
     refusal::first_large(bound, random)
 }

@@ -1,4 +1,4 @@
-// Steps of masked computations in code: the counts that a run carries, its random elements and its recorder.
+// Steps of masked computations in code: the machine that takes them, its counts, its random elements and its recorder.
 // The operations Split and Join are `splitting::split` and `joining::join`.
 #![tactic(auto)]
 
@@ -6,11 +6,13 @@ mod columns;
 pub mod counts;
 pub mod drawing;
 pub mod joining;
+pub mod machine;
 pub mod recording;
+pub mod share_count;
 pub mod splitting;
 
-pub use counts::Counts;
-pub use drawing::{bytes_for, draw, element_count, first_large_element};
-pub use joining::{JoinAnswer, join};
-pub use recording::{record, record_all};
-pub use splitting::{SplitAnswer, split};
+pub use counts::{Counts, Taken};
+pub use drawing::{bytes_for, draw, first_large_element};
+pub use joining::join;
+pub use share_count::ShareCount;
+pub use splitting::split;

@@ -1,122 +1,104 @@
-// The fields of a case file: each is a length in 4 bytes, then that many bytes.
-use crate::numbers::length;
+// The fields of a case file: each is a length in 4 bytes, then that many bytes. Numbers are big-endian.
+use std::alloc::{AllocError, Global};
+use thiserror::Error;
 
 // No slice of a case is longer.
-pub const LONGEST: usize = 65536;
+const LONGEST: usize = 65536;
 
-// No list of numbers of 4 bytes is longer.
-pub const LONGEST_LIST: usize = 16384;
-
-// The bytes of a field, from start up to end. Good: it and all fields before it are as they should be.
-#[derive(Clone, Copy)]
-pub struct Field {
-    pub start: usize,
-    pub end: usize,
-    pub good: bool,
+// Why a case cannot be tried.
+#[derive(Debug, Drop, Error)]
+pub enum FieldError {
+    #[error("the file is malformed")]
+    Malformed,
+    #[error(transparent)]
+    Memory(#[from] AllocError),
 }
 
-// Stands before the first field of a case that begins at a place.
-pub fn before(at: usize) -> Field {
-    Field {
-        start: at,
-        end: at,
-        good: true,
-    }
+// Reads the fields of a file one after the other.
+#[derive(Drop)]
+pub struct Fields<'a> {
+    rest: &'a [u8],
+    alloc: Global,
 }
 
-fn malformed() -> Field {
-    Field {
-        start: 0,
-        end: 0,
-        good: false,
+impl<'a> Fields<'a> {
+    pub fn new(alloc: Global, file: &'a [u8]) -> Fields<'a> {
+        Fields { rest: file, alloc }
     }
-}
 
-// The field whose length stands at a place of the file.
-fn field_at(file: &[u8], at: usize) -> Field {
-    if file.len() < at {
-        return malformed();
+    // Whether all is read.
+    pub fn is_empty(&self) -> bool {
+        self.rest.is_empty()
     }
-    if file.len() - at < 4 {
-        return malformed();
-    }
-    let start = at + 4;
-    let n = length(&file[at..start]);
-    if LONGEST < n {
-        return malformed();
-    }
-    if file.len() - start < n {
-        return malformed();
-    }
-    Field {
-        start,
-        end: start + n,
-        good: true,
-    }
-}
 
-// The field after another.
-pub fn next(file: &[u8], last: Field) -> Field {
-    if !last.good {
-        return malformed();
+    // The next 4 bytes, as a number.
+    pub fn word(&mut self) -> Result<u32, FieldError> {
+        let (word, rest) = self.rest.split_first_chunk().ok_or(FieldError::Malformed)?;
+        self.rest = rest;
+        Ok(u32::from_be_bytes(*word))
     }
-    field_at(file, last.end)
-}
 
-// The field after another, where it has to be n bytes long.
-pub fn next_of(n: usize, file: &[u8], last: Field) -> Field {
-    let f = next(file, last);
-    if part(file, f).len() != n {
-        return malformed();
+    // The bytes of the next field.
+    pub fn bytes(&mut self) -> Result<&'a [u8], FieldError> {
+        let length = checked_length(self.word()?)?;
+        let (bytes, rest) = self
+            .rest
+            .split_at_checked(length)
+            .ok_or(FieldError::Malformed)?;
+        self.rest = rest;
+        Ok(bytes)
     }
-    f
-}
 
-// The field after another, where it stands for a list of numbers of 4 bytes.
-pub fn next_list(file: &[u8], last: Field) -> Field {
-    let f = next(file, last);
-    if part(file, f).len() % 4 != 0 {
-        return malformed();
+    // The next field, where it has to be N bytes long.
+    fn array<const N: usize>(&mut self) -> Result<&'a [u8; N], FieldError> {
+        self.bytes()?.as_array().ok_or(FieldError::Malformed)
     }
-    f
-}
 
-// The field after another, where it stands for a slice filled with one byte: the byte, then the slice's length.
-pub fn next_filled(file: &[u8], last: Field) -> Field {
-    let f = next_of(5, file, last);
-    if LONGEST < filled_length(part(file, f)) {
-        return malformed();
+    // A field that is a number of 4 bytes.
+    pub fn number(&mut self) -> Result<u32, FieldError> {
+        Ok(u32::from_be_bytes(*self.array()?))
     }
-    f
-}
 
-// The length of the slice that such a field stands for.
-pub fn filled_length(field: &[u8]) -> usize {
-    if field.len() != 5 {
-        return 0;
-    }
-    length(&field[1..5])
-}
-
-// The byte that fills it.
-pub fn filled_byte(field: &[u8]) -> u8 {
-    if field.len() != 5 {
-        return 0;
-    }
-    field[0]
-}
-
-// The bytes of a field.
-pub fn part(file: &[u8], f: Field) -> &[u8] {
-    let start = f.start;
-    let end = f.end;
-    if end <= file.len() {
-        if start <= end {
-            &file[start..end]
-        } else {
-            &file[0..0]
+    // A field that is a list of numbers of 4 bytes.
+    pub fn list(&mut self) -> Result<Vec<u32>, FieldError> {
+        match self.bytes()?.as_chunks() {
+            (numbers, []) => Ok(
+                numbers
+                    .iter()
+                    .map(|number| u32::from_be_bytes(*number))
+                    .collect(self.alloc)?,
+            ),
+            _ => Err(FieldError::Malformed),
         }
-    } else {
-        &file[0..0]
     }
+
+    // A slice that an operation is lent for writing.
+    pub fn lent(&mut self) -> Result<Vec<u8>, FieldError> {
+        Ok(Vec::from_slice(self.alloc, self.bytes()?)?)
+    }
+
+    // A slice filled with one byte, for which the byte stands, then the slice's length.
+    pub fn filled(&mut self) -> Result<Vec<u8>, FieldError> {
+        let [byte, a, b, c, d]: [u8; 5] = *self.array()?;
+        let length = checked_length(u32::from_be_bytes([a, b, c, d]))?;
+        Ok(vec![in self.alloc; byte; length]?)
+    }
+
+    // An answer: its four words.
+    pub fn answer(&mut self) -> Result<[u64; 4], FieldError> {
+        let bytes: &[u8; 32] = self.array()?;
+        match bytes.as_chunks() {
+            ([a, b, c, d], []) => Ok([*a, *b, *c, *d].map(u64::from_be_bytes)),
+            _ => Err(FieldError::Malformed),
+        }
+    }
+}
+
+// The length of a slice, where it is not longer than any may be.
+fn checked_length(length: u32) -> Result<usize, FieldError> {
+    let length = length as usize;
+    if LONGEST < length {
+        return Err(FieldError::Malformed);
+    }
+    Ok(length)
 }

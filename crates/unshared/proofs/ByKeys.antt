@@ -1,6 +1,5 @@
 -- A block by the table and the keys of encryption is the block encrypted, and by those of decryption decrypted.
 use mathlib.Core.Path.{◌≡◌, refl, sym, ap, ap₂, ◌∙◌}
-use mathlib.Core.Bool.{true, false}
 use Prim.Native.Nat.{ℕ, zero, suc, ◌+◌, ◌-◌, ◌^◌, ◌<◌}
 use native.Mathlib.Omega.{arith}
 use lib.ListN.{get_or}
@@ -15,7 +14,7 @@ use Rattle.present.proofs.Numbers.{permute_linear, unpermute_linear}
 use Rattle.present.proofs.Layer.{layer_lt}
 use Rattle.present.proofs.Inverse.{substitute_lt, unsubstitute_lt, permute_unpermute, block_round, encrypt_by_keys, round_key_lt, undo_round_lt, decrypt_lt}
 use Rattle.unshared.specs.Table.{encryption_table, decryption_table}
-use Rattle.unshared.specs.RoundKeys.{round_keys, inverse_keys, turn, by_table, one_block}
+use Rattle.unshared.specs.RoundKeys.{round_keys, inverse_keys, turn, by_table}
 use Rattle.unshared.proofs.Tables.{encryption_entries, decryption_entries}
 
 -- a key added before each turn of a loop, and a last one: the first key, and then a key after each turn
@@ -49,8 +48,8 @@ module _ (z : Size) (k : ℕ) where
     layers_lt y h = permute_linear.small _ (layer_lt substitute substitute_lt y h)
 
     -- ENCRYPTION.
-    pub encrypts : (x : ℕ) → x < 2 ^ 64 → one_block false encryption_table (round_keys z k) x ≡ encrypt z k x
-    unfolding one_block by_table turn layers block_round
+    pub encrypts : (x : ℕ) → x < 2 ^ 64 → by_table encryption_table (round_keys z k) x ≡ encrypt z k x
+    unfolding by_table turn layers block_round
     encrypts x h =
         let key : ℕ → ℕ = round_key_of z k in
         ap (λ (q : ℕ). iterate 1 32 (turn encryption_table (round_keys z k)) (q ⊕ x)) (round_key_lem 0 (omega arith))
@@ -72,8 +71,8 @@ module _ (z : Size) (k : ℕ) where
         (layer_lt unsubstitute unsubstitute_lt (unpermute y) hs))
 
     -- DECRYPTION.
-    pub decrypts : (y : ℕ) → y < 2 ^ 64 → one_block true decryption_table (inverse_keys z k) y ≡ decrypt z k y
-    unfolding one_block by_table decrypt iterate_back
+    pub decrypts : (y : ℕ) → y < 2 ^ 64 → permute (by_table decryption_table (inverse_keys z k) (unpermute y)) ≡ decrypt z k y
+    unfolding by_table decrypt iterate_back
     decrypts y h =
         let q = round_key_of z k 32 in
         let hq : q < 2 ^ 64 = round_key_lt z sound k hk 32 (omega arith) in

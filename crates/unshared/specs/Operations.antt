@@ -1,15 +1,11 @@
 -- The operations Encrypt and Decrypt (key, block, out): one block without shares. Key, block and output are numbers in bytes, high byte first.
-use Rattle.std.specs.Prelude.{Bool, ◌&&◌, List, [], ℕ, ◌/◌, eqb}
-use Rattle.refusal.specs.Outcome.{Outcome, done, refused, test}
+use Rattle.std.specs.Prelude.{◌≡◌, Bool, ◌&&◌, List, [], ℕ, ◌/◌, ◌%◌, eqb, length}
+use Rattle.refusal.specs.Outcome.{Outcome, done, test}
 use Rattle.steps.specs.Fill.{tabulate}
 use Rattle.steps.specs.Bytes.{from_bytes, to_bytes}
 use Rattle.steps.specs.ShareBytes.{share_at, bytes_of}
 use Rattle.present.specs.Present.{Size, encrypt}
 use Rattle.present.specs.Decrypt.{decrypt}
-use Rattle.unshared.specs.declared.enciphering.EncryptAnswer.{EncryptAnswer}
-use Rattle.unshared.specs.declared.enciphering.EncryptAnswer.TheVariants.{Done as Encrypt-as-Done, Refused as Encrypt-as-Refused}
-use Rattle.unshared.specs.declared.deciphering.DecryptAnswer.{DecryptAnswer}
-use Rattle.unshared.specs.declared.deciphering.DecryptAnswer.TheVariants.{Done as Decrypt-as-Done, Refused as Decrypt-as-Refused}
 
 -- the bytes of a key
 abbrev pub key_bytes : Size → ℕ
@@ -31,16 +27,11 @@ encrypt_output z key block = to_bytes 8 (encrypt z (from_bytes key) (from_bytes 
 unfoldable pub decrypt_output : Size → List ℕ → List ℕ → List ℕ
 decrypt_output z key block = to_bytes 8 (decrypt z (from_bytes key) (from_bytes block))
 
--- what each answer stands for
-abbrev pub encrypt_report : EncryptAnswer → Outcome
-encrypt_report Encrypt-as-Done = done []
-encrypt_report (Encrypt-as-Refused number place) = refused number place
-
-abbrev pub decrypt_report : DecryptAnswer → Outcome
-decrypt_report Decrypt-as-Done = done []
-decrypt_report (Decrypt-as-Refused number place) = refused number place
-
 -- ---- many blocks
+
+-- whole blocks, and an output as long as these
+abbrev pub BlocksFit : List ℕ → List ℕ → Type 0
+BlocksFit blocks out = (length blocks % 8 ≡ 0) × (length out ≡ length blocks)
 
 -- f on each of n blocks of 8 bytes that lie one after the other in l
 unfoldable pub on_blocks : (ℕ → ℕ) → ℕ → List ℕ → List ℕ

@@ -1,9 +1,9 @@
 -- For inner contracts only. A block by a table and a list of 32 keys.
-use Rattle.std.specs.Prelude.{Bool, cond, List, ℕ, ◌+◌, ◌-◌, get_or}
+use Rattle.std.specs.Prelude.{List, ℕ, ◌+◌, ◌-◌, get_or}
 use Rattle.xor.specs.Xor.{◌⊕◌}
 use Rattle.steps.specs.Fill.{tabulate}
 use Rattle.steps.specs.Iterate.{iterate}
-use Rattle.present.specs.Present.{permute, Size}
+use Rattle.present.specs.Present.{Size}
 use Rattle.present.specs.Decrypt.{unpermute, round_key_of}
 use Rattle.unshared.specs.Lookup.{entries}
 
@@ -22,7 +22,3 @@ turn table keys r x = get_or keys r 0 ⊕ entries table x
 -- the first key added, and then 31 turns
 unfoldable pub by_table : List ℕ → List ℕ → ℕ → ℕ
 by_table table keys x = iterate 1 32 (turn table keys) (get_or keys 0 0 ⊕ x)
-
--- A block, either way. Decryption holds the block as the inverse permutation leaves it.
-unfoldable pub one_block : Bool → List ℕ → List ℕ → ℕ → ℕ
-one_block inverse table keys x = cond inverse (permute (by_table table keys (unpermute x))) (by_table table keys x)

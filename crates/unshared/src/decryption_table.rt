@@ -3,7 +3,7 @@ ghost use Rattle.std.specs.Prelude.{◌≡◌};
 ghost use Rattle.unshared.specs.Table.{decryption_table};
 
 // Entry 256 j + v: what the byte v at place j of a block becomes by the inverse substitution and the inverse permutation. Place 0 is the lowest byte.
-const DECRYPTION: [u64; 2048] = [
+static DECRYPTION: [u64; 2048] = [
     0x0000000001010101, // place 0
     0x0000000001011110,
     0x0000000001011111,
@@ -2054,9 +2054,9 @@ const DECRYPTION: [u64; 2048] = [
     0x8080808000000000,
 ];
 
-// The table. The compiler writes a constant out wherever it is used, so a call takes it once and lends it to its rounds.
-pub fn decryption_table() -> [u64; 2048]
-    ensures { result ≡ decryption_table }
+// The table, lent from where it stands in the program: a constant would be written out in each call.
+pub fn decryption_table() -> &'static [u64; 2048]
+    ensures { result.now ≡ decryption_table }
 {
-    DECRYPTION
+    &DECRYPTION
 }

@@ -3,7 +3,7 @@ ghost use Rattle.std.specs.Prelude.{◌≡◌};
 ghost use Rattle.unshared.specs.Table.{encryption_table};
 
 // Entry 256 j + v: what the byte v at place j of a block becomes by substitution and permutation. Place 0 is the lowest byte.
-const ENCRYPTION: [u64; 2048] = [
+static ENCRYPTION: [u64; 2048] = [
     0x0003000300000000, // place 0
     0x0002000300000001,
     0x0002000300010000,
@@ -2054,9 +2054,9 @@ const ENCRYPTION: [u64; 2048] = [
     0x00000000C0000000,
 ];
 
-// The table. The compiler writes a constant out wherever it is used, so a call takes it once and lends it to its rounds.
-pub fn encryption_table() -> [u64; 2048]
-    ensures { result ≡ encryption_table }
+// The table, lent from where it stands in the program: a constant would be written out in each call.
+pub fn encryption_table() -> &'static [u64; 2048]
+    ensures { result.now ≡ encryption_table }
 {
-    ENCRYPTION
+    &ENCRYPTION
 }

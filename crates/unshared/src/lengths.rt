@@ -7,11 +7,5 @@ ghost use Rattle.unshared.specs.Operations.{unshared_lengths};
 pub fn lengths_fit(key: usize, block: usize, out: usize) -> bool
     ensures { result ≡ unshared_lengths size80 key block out }
 {
-    if key != 10 {
-        return false;
-    }
-    if block != 8 {
-        return false;
-    }
-    out == 8
+    key == 10 && block == 8 && out == 8
 }

@@ -7,12 +7,11 @@ pub mod deciphering;
 mod decryption_table;
 pub mod enciphering;
 mod encryption_table;
-mod inverse;
 mod keys;
 mod lengths;
 mod lookup;
 mod rounds;
 
 pub use blocks::{decrypt_blocks, encrypt_blocks};
-pub use deciphering::{DecryptAnswer, decrypt};
-pub use enciphering::{EncryptAnswer, encrypt};
+pub use deciphering::decrypt;
+pub use enciphering::encrypt;

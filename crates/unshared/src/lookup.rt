@@ -1,5 +1,5 @@
 // The bytes of a block, looked up in a table.
-ghost use Rattle.std.specs.Prelude.{◌≡◌, ◌+◌, ◌*◌, ◌/◌, ◌%◌, ◌^◌, ◌<◌, length};
+ghost use Rattle.std.specs.Prelude.{◌≡◌, ◌+◌, ◌*◌, ◌/◌, ◌%◌, ◌^◌, ◌<◌};
 ghost use Rattle.unshared.specs.Lookup as spec;
 
 // Where the entry of byte j of a block is.
@@ -11,15 +11,12 @@ fn place(x: u64, j: usize) -> usize
 }
 
 // The entries of the eight bytes of a block, added.
-pub fn add_entries(table: &[u64], x: u64) -> u64
-    requires { length table.now ≡ 2048 }
+pub fn add_entries(table: &[u64; 2048], x: u64) -> u64
     ensures { result ≡ spec.entries table.now x }
 {
-    let mut y: u64 = 0;
-    let mut j: usize = 0;
-    while j < 8 {
-        y = y ^ table[place(x, j)];
-        j += 1;
+    let mut y = 0;
+    for j in 0..8 {
+        y ^= table[place(x, j)];
     }
     y
 }

@@ -7,31 +7,21 @@ use Rattle.field.proofs.Inverses.{field_of, chain, inverse_chain}
 use Rattle.field.proofs.Turns.{narrow_width, next_chain}
 use Rattle.field.proofs.inverse.Goals as goal
 
-pub mul-power-requires : goal.mul-power-requires
-mul-power-requires c = c.requires.narrow
-
 pub loop-k-init : goal.loop-k-init
 unfolding square
 loop-k-init c =
     let ring = (field_of c.args.width (narrow_width c.args.width c.requires.narrow)).ring in
-    (ring.wide, ap₂ (chain c.args.width (c.args.width - 2)) c.mul-power.ensures c.mul-power.ensures ∙ sym (inverse_chain ring c.args.a c.requires.a_bound))
-
-pub mul-power-requires-in-loop-k : goal.mul-power-requires-in-loop-k
-mul-power-requires-in-loop-k c = c.requires.narrow
-
-pub mul-product-requires : goal.mul-product-requires
-mul-product-requires c = c.requires.narrow
+    ap₂ (chain c.args.width (c.args.width - 2)) c.square-power.ensures c.square-power.ensures ∙ sym (inverse_chain ring c.args.a c.requires.a_bound)
 
 pub loop-k-preserved : goal.loop-k-preserved
-loop-k-preserved c = (
-  omega arith,
-  ap (chain c.args.width (c.args.width - (c.loop-k.k + 1)) c.mul-power-in-loop-k.result) c.mul-product.ensures
-      ∙ next_chain c.args.width c.loop-k.k c.loop-k.power c.loop-k.product c.mul-power-in-loop-k.result c.loop-k-test.true c.mul-power-in-loop-k.ensures
-      ∙ c.loop-k.invariant.1,
-)
+unfolding square
+loop-k-preserved c =
+    ap (chain c.args.width (c.args.width - (c.loop-k._k + 1)) c.square-power-in-loop-k.result) c.mul-product.ensures
+    ∙ next_chain c.args.width c.loop-k._k c.loop-k.power c.loop-k.product c.square-power-in-loop-k.result c.loop-k-test.true c.square-power-in-loop-k.ensures
+    ∙ c.loop-k.invariant
 
 pub returns : goal.returns
 unfolding chain
 returns c =
-    let none : c.args.width - c.loop-k.k ≡ 0 = omega arith in
-    rw none at c.loop-k.invariant.1
+    let none : c.args.width - c.loop-k._k ≡ 0 = omega arith in
+    rw none at c.loop-k.invariant

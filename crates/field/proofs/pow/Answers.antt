@@ -8,7 +8,7 @@ use Rattle.field.proofs.pow.Goals as goal
 
 pub loop-i-init : goal.loop-i-init
 unfolding pow
-loop-i-init c = (omega arith, refl)
+loop-i-init c = refl
 
 pub mul-product-requires : goal.mul-product-requires
 mul-product-requires c = c.requires
@@ -16,9 +16,9 @@ mul-product-requires c = c.requires
 pub loop-i-preserved : goal.loop-i-preserved
 unfolding pow
 loop-i-preserved c =
-    (omega arith, rw (add-one c.loop-i.i) (c.mul-product.ensures ∙ ap (mul c.args.width c.args.a) c.loop-i.invariant.1))
+    rw (add-one c.loop-i._i) (c.mul-product.ensures ∙ ap (mul c.args.width c.args.a) c.loop-i.invariant)
 
 pub returns : goal.returns
 returns c =
-    let all : c.loop-i.i ≡ c.args.e = omega arith in
-    c.loop-i.invariant.1 ∙ ap (pow c.args.width c.args.a) all
+    let all : c.loop-i._i ≡ c.args.e = omega (arith, c.loop-i.auto._i-end) in
+    c.loop-i.invariant ∙ ap (pow c.args.width c.args.a) all

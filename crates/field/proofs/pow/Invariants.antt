@@ -1,11 +1,7 @@
 -- `field::pow` meets its contract. The invariant: the product is a to the power i.
 use mathlib.Core.Path.{◌≡◌}
-use Prim.Native.Nat.{◌-◌, ◌≤◌}
 use Rattle.field.specs.Power.{pow}
 use Rattle.field.proofs.pow.Given as goal
 
 abbrev pub invariant-loop-i : goal.invariant-loop-i
-invariant-loop-i l = (l.i ≤ l.e) × (l.product ≡ pow l.width l.a l.i)
-
-abbrev pub decreases-loop-i : goal.decreases-loop-i
-decreases-loop-i l = l.e - l.i
+invariant-loop-i l = l.product ≡ pow l.width l.a l._i

@@ -1,38 +1,20 @@
 -- `product::product` meets its contract: the starts, and then the rows.
-use borrow.Author.Rules.{rules}
-use Rattle.steps.proofs.Machine.{then_runs, mark_runs}
-use Rattle.steps.proofs.Parts.{ready_first, ready_next, ready_mark, ready_products}
-use Rattle.steps.proofs.StepsAlone.{ready_steps, went_steps}
-use Rattle.field.proofs.Turns.{narrow_width}
+use Rattle.steps.proofs.Parts.{ready_first, ready_next, ready_mark, ready_products, went_then, went_mark}
 use Rattle.product.specs.Product as spec
-use Rattle.product.proofs.Runs.{starts_alone}
 use Rattle.product.proofs.product.Goals as goal
 
-pub overflow_add-begun : goal.overflow_add-begun
+pub begin_product-requires : goal.begin_product-requires
 unfolding spec.product
-overflow_add-begun c =
-    let h = ready_products _ (ready_mark _ c.requires.ready) in
-    search rules
+begin_product-requires g c = ready_products _ (ready_mark _ c.requires)
 
-pub starts-k-requires : goal.starts-k-requires
+pub starts-requires : goal.starts-requires
 unfolding spec.product
-starts-k-requires c =
-    record {
-      width = narrow_width _ (search rules);
-      s_bound = search rules;
-      ready_steps = ready_steps (starts_alone _ _ _ _ _) (ready_first _ _ (ready_mark _ c.requires.ready));
-    }
+starts-requires g c = rw c.begin_product.ensures (ready_first _ _ (ready_mark _ c.requires))
 
-pub pairs-n-requires : goal.pairs-n-requires
+pub rows-requires : goal.rows-requires
 unfolding spec.product
-pairs-n-requires c =
-    record {
-      narrow = search rules;
-      s_bound = search rules;
-      ready = ready_next _ (ready_mark _ c.requires.ready) (went_steps (starts_alone _ _ _ _ _) c.starts-k.ensures) (search rules);
-    }
+rows-requires g c = ready_next _ (ready_mark _ c.requires) (rw c.begin_product.ensures at c.starts.ensures)
 
 pub returns : goal.returns
 unfolding spec.product
-returns c =
-    record { runs = mark_runs _ _ _ _ _ (then_runs _ _ _ _ _ _ (went_steps (starts_alone _ _ _ _ _) c.starts-k.ensures).runs c.pairs-n.ensures.runs) }
+returns g c = went_mark (went_then _ (rw c.begin_product.ensures at c.starts.ensures) c.rows.ensures)

@@ -1,19 +1,12 @@
 -- `product::rows` meets its contract: a loop over the rows of pairs.
-use borrow.Author.Rules.{rules}
-use Rattle.steps.proofs.Loop.{going, going_ready, going_on, gone}
+use Rattle.steps.proofs.Loop.{going_ready, going_on, gone}
 use Rattle.product.proofs.rows.Goals as goal
 
-pub loop-i-init : goal.loop-i-init
-loop-i-init c = search going
-
-pub row-n-requires : goal.row-n-requires
-row-n-requires c =
-    record { width = search rules; i_lt_s = search rules; ready = going_ready c.loop-i.invariant (search rules) c.loop-i-test.true }
+pub row-requires : goal.row-requires
+row-requires g c = record { i_bound = c.loop-i-test.true; ready = going_ready c.loop-i.invariant c.requires c.loop-i-test.true }
 
 pub loop-i-preserved : goal.loop-i-preserved
-loop-i-preserved c =
-    going_on c.loop-i.invariant c.loop-i-test.true c.row-n.ensures (search rules)
+loop-i-preserved g c = going_on c.loop-i.invariant c.requires c.loop-i-test.true c.row.ensures
 
 pub returns : goal.returns
-returns c =
-    gone c.loop-i.invariant c.loop-i-test.false
+returns g c = gone c.loop-i.invariant c.loop-i-test.false

@@ -1,21 +1,13 @@
--- `refusal::first_past` meets its contract. The invariant: the first number that is too large is not passed yet.
-use native.Mathlib.Omega.{arith}
-use Rattle.refusal.proofs.Large.{large_found, large_past, large_within}
+-- `refusal::first_past` meets its contract: the search is the library's.
+use Rattle.std.proofs.Common.{rules}
+use borrow.Author.Tests.{tests}
+use lib.Dec.{leb}
+use Rattle.std.proofs.lemmas.Iterator.{YieldsList-from_slice}
+use Rattle.std.proofs.lemmas.Iterator.Search.{position_from_yields_List}
+use Rattle.refusal.proofs.Large.{large_position}
 use Rattle.refusal.proofs.first_past.Goals as goal
-
-pub loop-i-init : goal.loop-i-init
-loop-i-init c = (omega arith, omega arith)
-
-pub returns-then-list-i : goal.returns-then-list-i
-returns-then-list-i c =
-    omega (arith, c.loop-i.invariant.1, large_found c.args.total c.args.list.now c.loop-i.i c.loop-i-test.true c.if-list-i.true)
-
-pub loop-i-preserved : goal.loop-i-preserved
-loop-i-preserved c = (
-  omega arith,
-  omega (arith, large_past c.args.total c.args.list.now c.loop-i.i c.loop-i-test.true c.if-list-i.false c.loop-i.invariant.1),
-)
 
 pub returns : goal.returns
 returns c =
-    omega (arith, c.loop-i.invariant.1, large_within c.args.total c.args.list.now)
+    rw (← large_position c.args.total c.args.list.now)
+    (position_from_yields_List (leb c.args.total) _ _ _ c.position.ensures.ran (YieldsList-from_slice c.args.list.now cc) (λ x b q k. search (rules, tests)))

@@ -1,34 +1,24 @@
 -- `arguments::call_tests` meets its contract: each test is that of the definition.
-use mathlib.Core.Path.{◌∙◌}
-use Rattle.refusal.proofs.Outcome.{test_fails, test_passes}
 use Rattle.refusal.proofs.Range.{one_to_range}
+use Rattle.refusal.proofs.Exits.{held, failed, raised}
 use Rattle.aes.specs.Operations.{call_tests}
-use mathlib.Core.Path.{ap}
-use mathlib.Core.Bool.{not}
 use Rattle.aes.proofs.arguments.call_tests.Goals as goal
 
-pub returns-then-not-one_to : goal.returns-then-not-one_to
+pub returns-in_err-s : goal.returns-in_err-s
 unfolding call_tests
-returns-then-not-one_to c =
-    c.refuse.ensures ∙ rw (test_fails c.one_to.ensures (ap not c.if-not-one_to.true))
+returns-in_err-s c = rw (raised _ _ c.from_residual.ensures.1, c.in_err-s.ensures.0, c.in_err-s.ensures.1)
 
 pub lengths_fit-requires : goal.lengths_fit-requires
-lengths_fit-requires c =
-    one_to_range _ _ (test_passes c.one_to.ensures (ap not c.if-not-one_to.false))
+lengths_fit-requires c = rw c.in_ok-s.ensures.0 (one_to_range _ _ c.in_ok-s.ensures.1)
 
-pub returns-then-not-lengths_fit : goal.returns-then-not-lengths_fit
+pub returns-in_err-refuse_unless : goal.returns-in_err-refuse_unless
 unfolding call_tests
-returns-then-not-lengths_fit c =
-    c.refuse-then-not-lengths_fit.ensures
-    ∙ rw (
-      test_passes c.one_to.ensures (ap not c.if-not-one_to.false),
-      test_fails c.lengths_fit.ensures (ap not c.if-not-lengths_fit.true),
-    )
+returns-in_err-refuse_unless c =
+    let f = failed _ c.lengths_fit.ensures c.refuse_unless.ensures c.in_err-refuse_unless.was in
+    rw (raised _ _ c.from_residual-in_err-refuse_unless.ensures.1, f.1, c.in_ok-s.ensures.1, rw c.in_ok-s.ensures.0 at f.0)
 
 pub returns : goal.returns
 unfolding call_tests
 returns c =
-    rw (
-      test_passes c.one_to.ensures (ap not c.if-not-one_to.false),
-      test_passes c.lengths_fit.ensures (ap not c.if-not-lengths_fit.false),
-    )
+    let fits = rw c.in_ok-s.ensures.0 at (held _ c.lengths_fit.ensures c.refuse_unless.ensures c.in_ok-refuse_unless.was) in
+    (c.in_ok-s.ensures.0, rw (c.in_ok-s.ensures.1, fits))

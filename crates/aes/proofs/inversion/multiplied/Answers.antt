@@ -1,29 +1,20 @@
 -- `inversion::multiplied` meets its contract: three products, each of the one before.
-use native.Mathlib.Omega.{arith}
 use Rattle.steps.proofs.Parts.{ready_first, ready_next, went_then}
 use Rattle.aes.specs.Sbox.{multiplied as program}
 use Rattle.aes.proofs.inversion.multiplied.Goals as goal
 
-pub product-n-requires : goal.product-n-requires
+pub product-x50-requires : goal.product-x50-requires
 unfolding program
-product-n-requires c =
-    record { s_bound = c.requires.s_bound; ready = ready_first _ _ c.requires.ready }
+product-x50-requires g c = ready_first _ _ c.requires
 
-pub product-n-requires-2 : goal.product-n-requires-2
+pub product-x118-requires : goal.product-x118-requires
 unfolding program
-product-n-requires-2 c =
-    let ready = ready_next _ c.requires.ready c.product-n.ensures (omega (arith, c.product-n.auto)) in
-    record { s_bound = c.requires.s_bound; ready = ready_first _ _ ready }
+product-x118-requires g c = ready_first _ _ (ready_next _ c.requires c.product-x50.ensures)
 
 pub product-requires : goal.product-requires
 unfolding program
-product-requires c =
-    let ready = ready_next _ c.requires.ready c.product-n.ensures (omega (arith, c.product-n.auto)) in
-    record { s_bound = c.requires.s_bound; ready = ready_next _ ready c.product-n-2.ensures (omega (arith, c.product-n-2.auto)) }
+product-requires g c = ready_next _ (ready_next _ c.requires c.product-x50.ensures) c.product-x118.ensures
 
 pub returns : goal.returns
 unfolding program
-returns c =
-    went_then _ c.product-n.ensures
-    (went_then _ c.product-n-2.ensures
-    c.product.ensures)
+returns g c = went_then _ c.product-x50.ensures (went_then _ c.product-x118.ensures c.product.ensures)

@@ -7,12 +7,10 @@ use Rattle.rijndael.specs.Strings.{byte_at}
 use Rattle.aes.proofs.Runs.{rcon_room, rcon_went}
 use Rattle.aes.proofs.key_expansion.add_rcon.Goals as goal
 
-pub record-next-requires : goal.record-next-requires
-record-next-requires c =
-    rcon_room c.args.r c.args.t.now c.requires.ready_steps
+pub record-requires : goal.record-requires
+record-requires g c = rcon_room _ _ c.requires.ready
 
 pub returns : goal.returns
 unfolding ◌⊕◌ rcon
-returns c =
-    let recorded = c.record-next.ensures in
-    rcon_went c.args.r c.args.t.now _ _ _ (ap (λ (v : ℕ). byte_at c.args.t.now 0 ⊕ v) c.power_of_two.ensures) recorded.0 recorded.1
+returns g c =
+    rcon_went c.args.r c.args.t.now _ (ap (λ (v : ℕ). byte_at c.args.t.now 0 ⊕ v) c.power_of_two.ensures) c.record.ensures

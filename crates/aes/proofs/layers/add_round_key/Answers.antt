@@ -1,15 +1,18 @@
--- `layers::add_round_key` meets its contract: a loop over the places of the shares.
-use borrow.Author.Rules.{rules}
-use Rattle.rijndael.specs.Strings.{make_shares}
-use Rattle.aes.proofs.Fills.{filling, filling_on, filled}
+-- `layers::add_round_key` meets its contract: it is made place by place, and recorded.
+use native.Mathlib.Omega.{arith}
+use Rattle.rijndael.specs.Strings.{place_of, make_shares}
+use Rattle.rijndael.specs.Rijndael.{key_byte}
+use Rattle.rijndael.specs.Masked.{masked_add_round_key}
+use Rattle.aes.proofs.Bounds.{few}
 use Rattle.aes.proofs.layers.add_round_key.Goals as goal
 
-pub loop-p-init : goal.loop-p-init
-loop-p-init c = filling _ _ _
+pub make_shares-requires : goal.make_shares-requires
+make_shares-requires g c = (omega arith, λ p h. (c.requires.r_bound, omega (arith, few 144 c.args.s.few, h)))
 
-pub loop-p-preserved : goal.loop-p-preserved
-loop-p-preserved c = filling_on c.loop-p.invariant c.loop-p-test.true (search rules) c.key_place.ensures
+pub recorded-requires : goal.recorded-requires
+unfolding masked_add_round_key make_shares
+recorded-requires g c = (omega arith, rw (c.make_shares.ensures (place_of 16 176 16 (key_byte c.args.r) c.args.a.now c.args.w.now) (λ p v h r. r)) c.requires.ready)
 
 pub returns : goal.returns
-unfolding make_shares
-returns c = filled c.loop-p.invariant c.loop-p-test.false
+unfolding masked_add_round_key make_shares
+returns g c = rw (c.make_shares.ensures (place_of 16 176 16 (key_byte c.args.r) c.args.a.now c.args.w.now) (λ p v h r. r)) at c.recorded.ensures

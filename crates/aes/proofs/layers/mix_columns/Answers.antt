@@ -1,15 +1,19 @@
--- `layers::mix_columns` meets its contract: a loop over the places of the shares.
-use borrow.Author.Rules.{rules}
-use Rattle.rijndael.specs.Strings.{make_shares}
-use Rattle.aes.proofs.Fills.{filling, filling_on, filled}
+-- `layers::mix_columns` meets its contract: it is made place by place, and recorded.
+use mathlib.Core.List.{[]}
+use native.Mathlib.Omega.{arith}
+use Rattle.rijndael.specs.Strings.{place_of, make_shares}
+use Rattle.rijndael.specs.Rijndael.{mix_byte}
+use Rattle.rijndael.specs.Masked.{masked_mix_columns}
+use Rattle.aes.proofs.Bounds.{few}
 use Rattle.aes.proofs.layers.mix_columns.Goals as goal
 
-pub loop-p-init : goal.loop-p-init
-loop-p-init c = filling _ _ _
+pub make_shares-requires : goal.make_shares-requires
+make_shares-requires g c = (omega arith, λ p h. omega (arith, few 144 c.args.s.few, h))
 
-pub loop-p-preserved : goal.loop-p-preserved
-loop-p-preserved c = filling_on c.loop-p.invariant c.loop-p-test.true (search rules) c.mix_place.ensures
+pub recorded-requires : goal.recorded-requires
+unfolding masked_mix_columns make_shares
+recorded-requires g c = (omega arith, rw (c.make_shares.ensures (place_of 16 0 16 mix_byte c.args.a.now []) (λ p v h r. r)) c.requires)
 
 pub returns : goal.returns
-unfolding make_shares
-returns c = filled c.loop-p.invariant c.loop-p-test.false
+unfolding masked_mix_columns make_shares
+returns g c = rw (c.make_shares.ensures (place_of 16 0 16 mix_byte c.args.a.now []) (λ p v h r. r)) at c.recorded.ensures

@@ -1,38 +1,27 @@
 -- `parts::put_shares` meets its contract: a loop over the shares.
-use mathlib.Core.Path.{◌≡◌, refl, ◌∙◌}
+use mathlib.Core.Path.{refl, ap, ◌∙◌}
+use Prim.Native.Nat.{◌+◌, ◌*◌, ◌/◌, ◌≤◌}
 use native.Mathlib.Numerals.{add-one}
 use native.Mathlib.Omega.{arith}
-use borrow.Author.Rules.{rules}
-use Rattle.rijndael.specs.Strings.{put_shares}
-use Rattle.aes.proofs.Bounds.{within, few}
+use lib.ListN.{length}
+use Rattle.rijndael.specs.Strings.{put_shares, put_places, share_byte}
+use Rattle.aes.proofs.Bounds.{within, few, next_share}
+use Rattle.aes.proofs.Fills.{put_copied}
 use Rattle.aes.proofs.parts.put_shares.Goals as goal
 
 pub loop-i-init : goal.loop-i-init
 unfolding put_shares
-loop-i-init c = (search rules, refl, refl)
-
-pub overflow_mul-i : goal.overflow_mul-i
-overflow_mul-i c =
-    omega (arith, within c.args.m c.loop-i-test.true, few c.args.m c.requires.2 c.requires.1)
-
-pub overflow_add-i : goal.overflow_add-i
-overflow_add-i c =
-    omega (arith, within c.args.m c.loop-i-test.true, few c.args.m c.requires.2 c.requires.1, c.requires.0)
-
-pub overflow_mul-i-in-loop-i : goal.overflow_mul-i-in-loop-i
-overflow_mul-i-in-loop-i c =
-    omega (arith, within c.args.n c.loop-i-test.true, c.requires.3, few {b = 176} c.args.n c.requires.2 (omega (arith, c.requires.0, c.requires.1)))
-
-pub put_places-requires : goal.put_places-requires
-put_places-requires c =
-    (omega (arith, within c.args.m c.loop-i-test.true, c.requires.0, c.requires.4), omega (arith, within c.args.n c.loop-i-test.true, c.requires.3))
+loop-i-init g c = refl
 
 pub loop-i-preserved : goal.loop-i-preserved
 unfolding put_shares
-loop-i-preserved c =
-    (search rules, c.put_places.ensures ∙ rw (add-one c.loop-i.i, c.loop-i.invariant.1), omega (arith, c.put_places.auto.a, c.loop-i.invariant.2))
-
-pub returns : goal.returns
-returns c =
-    let e : c.loop-i.i ≡ c.args.s = omega arith in
-    rw e at c.loop-i.invariant.1
+loop-i-preserved g c =
+    let m = g.row.N / 9 in
+    let n = g.row.P / 9 in
+    let i = c.loop-i.i in
+    let part = c.args.part.now in
+    let fits : i * m + c.args.at + n ≤ length c.loop-i.string =
+    omega (arith, within m c.loop-i-test.true, few g.row.N c.args.s.few, c.requires, c.loop-i.auto.string, c.told-a) in
+    let has : i * n + n ≤ length part = omega (arith, within n c.loop-i-test.true, few g.row.P c.args.s.few, c.told-part) in
+    put_copied c.loop-i.string part (i * m + c.args.at) n (i * n) fits has (next_share i n) (omega arith) c.copy_from_slice.ensures.after
+    ∙ rw (add-one i) (ap (put_places (i * m + c.args.at) n (share_byte n part i)) c.loop-i.invariant)

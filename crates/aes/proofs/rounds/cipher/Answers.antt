@@ -1,32 +1,21 @@
 -- `rounds::cipher` meets its contract: AddRoundKey, rounds 1 to 9, and round 10.
 use native.Mathlib.Omega.{arith}
 use Rattle.steps.proofs.Parts.{ready_first, ready_next, went_then}
-use Rattle.steps.proofs.StepsAlone.{ready_steps, went_counted}
 use Rattle.rijndael.specs.Masked.{masked_cipher as program}
-use Rattle.aes.proofs.Runs.{key_alone}
 use Rattle.aes.proofs.rounds.cipher.Goals as goal
 
-pub keyed-z-requires : goal.keyed-z-requires
+pub add_round_key-state-requires : goal.add_round_key-state-requires
 unfolding program
-keyed-z-requires c =
-    record { s_bound = (c.requires.s_bound, omega arith); ready_steps = ready_steps (key_alone _ _ _ _) (ready_first _ _ c.requires.ready) }
+add_round_key-state-requires g c = record { r_bound = omega arith; ready = ready_first _ _ c.requires }
 
-pub rounds-t-requires : goal.rounds-t-requires
+pub rounds-requires : goal.rounds-requires
 unfolding program
-rounds-t-requires c =
-    let ready-1 = ready_next _ c.requires.ready (went_counted (key_alone _ _ _ _) c.with_steps-n.ensures c.keyed-z.ensures) (omega (arith, c.keyed-z.auto.values)) in
-    record { s_bound = c.requires.s_bound; ready = ready_first _ _ ready-1 }
+rounds-requires g c = ready_first _ _ (ready_next _ c.requires c.add_round_key-state.ensures)
 
 pub last_round-requires : goal.last_round-requires
 unfolding program
-last_round-requires c =
-    let ready-1 = ready_next _ c.requires.ready (went_counted (key_alone _ _ _ _) c.with_steps-n.ensures c.keyed-z.ensures) (omega (arith, c.keyed-z.auto.values)) in
-    let ready-2 = ready_next _ (ready-1) c.rounds-t.ensures (omega (arith, c.rounds-t.auto.values)) in
-    record { s_bound = c.requires.s_bound; ready = ready-2 }
+last_round-requires g c = ready_next _ (ready_next _ c.requires c.add_round_key-state.ensures) c.rounds.ensures
 
 pub returns : goal.returns
 unfolding program
-returns c =
-    went_then _ (went_counted (key_alone _ _ _ _) c.with_steps-n.ensures c.keyed-z.ensures)
-    (went_then _ c.rounds-t.ensures
-    c.last_round.ensures)
+returns g c = went_then _ c.add_round_key-state.ensures (went_then _ c.rounds.ensures c.last_round.ensures)

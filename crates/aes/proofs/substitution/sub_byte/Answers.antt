@@ -2,10 +2,8 @@
 use Rattle.aes.proofs.Runs.{byte_ready, byte_went}
 use Rattle.aes.proofs.substitution.sub_byte.Goals as goal
 
-pub sbox-n-requires : goal.sbox-n-requires
-sbox-n-requires c =
-    record { s_bound = c.requires.j_lt_m.2; ready = byte_ready _ _ _ _ _ _ c.requires.ready c.take_byte-x.ensures }
+pub sbox-y-requires : goal.sbox-y-requires
+sbox-y-requires g c = byte_ready _ _ _ _ _ _ c.requires.ready c.take_byte-x.ensures
 
 pub returns : goal.returns
-returns c =
-    byte_went _ _ _ _ _ _ _ _ c.sbox-n.ensures c.take_byte-x.ensures c.put_byte.ensures
+returns g c = byte_went _ _ _ _ _ _ _ _ c.sbox-y.ensures c.take_byte-x.ensures c.put_shares.ensures

@@ -1,35 +1,18 @@
--- `enciphering::block` meets its contract: by what the tests come to.
-use mathlib.Core.List.{[]}
-use mathlib.Core.Path.{◌≡◌, sym, ap, ◌∙◌}
-use Prim.Native.Nat.{◌*◌}
-use borrow.Author.Tests.{eqb-true}
-use lib.Dec.{eqb}
-use lib.ListN.{length}
-use Rattle.refusal.specs.Outcome.{done}
+-- `enciphering::block` meets its contract: the record is tested, and then the call is made.
+use mathlib.Core.Path.{sym}
 use Rattle.refusal.proofs.Outcome.{refuses}
-use Rattle.cipher.specs.Ciphering.{call_tests, call_of}
-use Rattle.cipher.specs.Operations.{sealing, tested_report, block_outcome}
+use Rattle.refusal.proofs.Exits.{reports}
+use Rattle.steps.specs.Taken.{handed}
 use Rattle.steps.specs.Call.{call_outcome}
-use Rattle.cipher.proofs.Calls.{tests_passed}
+use Rattle.cipher.specs.Ciphering.{call_of, call_tests}
+use Rattle.cipher.specs.Operations.{block_outcome, block_output}
 use Rattle.cipher.proofs.enciphering.block.Goals as goal
 
-pub encipher-requires : goal.encipher-requires
-encipher-requires c =
-    -- where the tests are passed
-    let tested : call_tests (sealing c.args.rec.now c.args.s) c.args.key.now c.args.block.now c.args.random.now (eqb (length c.args.out.now) (8 * c.args.s)) ≡ done [] =
-    sym c.call_tests-tested.ensures ∙ ap tested_report c.in-Passed.is in
-    let p = tests_passed _ _ _ _ _ tested in
-    record { callable = p.0; out_len = eqb-true _ _ p.1 }
+pub returns-in_err-new : goal.returns-in_err-new
+unfolding block_outcome call_of call_tests call_outcome
+returns-in_err-new c =
+    refuses (reports handed _ _ c.from_residual.ensures.1) (rw (sym c.in_err-new.ensures.outcome))
 
-pub returns-in-Refused : goal.returns-in-Refused
-unfolding block_outcome call_of call_outcome
-returns-in-Refused c =
-    let e = sym c.call_tests-tested.ensures ∙ ap tested_report c.in-Refused.is in
-    refuses c.refuse.ensures (rw e)
-
-pub returns-in-Passed : goal.returns-in-Passed
-unfolding block_outcome call_of call_outcome
-returns-in-Passed c =
-    let tested : call_tests (sealing c.args.rec.now c.args.s) c.args.key.now c.args.block.now c.args.random.now (eqb (length c.args.out.now) (8 * c.args.s)) ≡ done [] =
-    sym c.call_tests-tested.ensures ∙ ap tested_report c.in-Passed.is in
-    rw tested c.encipher.ensures
+pub returns : goal.returns
+unfolding block_outcome block_output
+returns c = rw (sym c.in_ok-new.ensures.outcome, ← c.in_ok-new.ensures.coefficients) c.call.ensures

@@ -1,47 +1,75 @@
--- `decomposition::check` meets its contract. By what Read answers.
-use mathlib.Core.List.{◌∷◌, []}
-use mathlib.Core.Path.{◌≡◌, ◌∙◌, ap, sym}
-use Rattle.refusal.specs.Outcome.{Outcome, done, and_then}
-use Rattle.decomposition.specs.Check.{check_at, check_outcome}
-use Rattle.decomposition.specs.Record.{Accepted, layout_of, outputs_of, read_outcome, read_report}
+-- `checking::check` meets its contract: each test is that of the definition.
+use mathlib.Core.Path.{◌≡◌, ◌∙◌, refl, sym}
+use mathlib.Core.List.{List, []}
+use Prim.Native.Nat.{ℕ, ◌%◌}
+use native.Mathlib.Omega.{arith}
+use borrow.Author.Tests.{eqb-true}
+use lib.Dec.{eqb, leb}
+use lib.ListN.{length}
+use Rattle.std.specs.Prelude.{Ok, Result}
+use Rattle.std.proofs.lemmas.Result.{IfOk-at_ok}
+use Rattle.refusal.specs.declared.refusals.Refusal.{Refusal}
+use Rattle.refusal.specs.declared.refusals.Refusal.TheVariants.{Length}
+use Rattle.refusal.specs.Large.{test_below}
+use Rattle.refusal.specs.Outcome.{Outcome, done, test}
+use Rattle.refusal.specs.Refusals.{nothing, report}
+use Rattle.refusal.proofs.Exits.{held, failed, exits, reports, entry_large, entries_small, done_first, refused_first}
+use Rattle.decomposition.specs.Check.{check_outcome, first_difference, form_in}
+use Rattle.decomposition.specs.Reading.{HandsBack, width_in}
+use Rattle.decomposition.specs.Record.{coefficients_of, layout_of, read_outcome}
 use Rattle.decomposition.specs.declared.layouts.Layout.{Layout}
-use Rattle.decomposition.proofs.ReadOutcome.{head_within, read_accepted}
-use Rattle.decomposition.proofs.Sizes.{sizes}
+use Rattle.decomposition.specs.declared.records.Record.{Record}
+use Rattle.decomposition.proofs.Differences.{agrees, differs}
+use Rattle.decomposition.proofs.Sizes.{entries_few}
+use Rattle.decomposition.proofs.Whole.{sizes_of}
 use Rattle.decomposition.proofs.checking.check.Goals as goal
 
-pub layout_in-requires : goal.layout_in-requires
-layout_in-requires c =
-    -- where Read accepts the record
-    let read_done : read_outcome c.args.bytes.now ≡ done (c.in-Done.width ∷ []) =
-    sym c.read-answer.ensures ∙ ap read_report c.in-Done.is in
-    let accepted : Accepted c.in-Done.width c.args.bytes.now =
-    read_accepted c.args.bytes.now c.in-Done.width read_done in
-    let a = accepted in
-    record { in_bounds = head_within c.args.bytes.now c.in-Done.width a; pair = rw a.named a.pair }
+-- the tests of the table, by the layout and the coefficients of a record
+abbrev table_tests : Layout → List ℕ → List ℕ → Outcome
+table_tests L cs table =
+    let first = first_difference (λ x. form_in L cs x % L.entries) table in
+    test (eqb (length table) L.inputs) 2 0 (test_below L.entries 0 table (test (leb (length table) first) 6 first (done [])))
 
-pub check_at-requires : goal.check_at-requires
-check_at-requires c =
-    let read_done : read_outcome c.args.bytes.now ≡ done (c.in-Done.width ∷ []) =
-    sym c.read-answer.ensures ∙ ap read_report c.in-Done.is in
-    let accepted : Accepted c.in-Done.width c.args.bytes.now =
-    read_accepted c.args.bytes.now c.in-Done.width read_done in
-    let a = accepted in
-    record {
-      sizes = rw (c.layout_in.ensures, a.named) (sizes c.in-Done.width (outputs_of c.args.bytes.now) a.pair);
-      bytes_len = rw (c.layout_in.ensures, a.named) a.whole;
-    }
-
-pub returns-in-Refused : goal.returns-in-Refused
+-- they follow where Read hands back a record
+goes_on : (r table : List ℕ) {answer : Result Record Refusal} {accepted : Record} → report width_in answer ≡ read_outcome r
+    → HandsBack answer (layout_of r) (coefficients_of r) → answer ≡ Ok accepted → check_outcome r table ≡ table_tests accepted.layout accepted.coefficients.now table
 unfolding check_outcome
-returns-in-Refused c =
-    let e = sym c.read-answer.ensures ∙ ap read_report c.in-Refused.is in
-    c.refuse.ensures ∙ sym (ap (λ (t : Outcome). and_then t (check_at (layout_of c.args.bytes.now) c.args.bytes.now c.args.table.now)) e)
+goes_on r table h parts g = let p = IfOk-at_ok _ g parts in rw (p.0, p.1) (done_first width_in _ h g)
 
-pub returns-in-Done : goal.returns-in-Done
+pub returns-in_err-record : goal.returns-in_err-record
 unfolding check_outcome
-returns-in-Done c =
-    let read_done : read_outcome c.args.bytes.now ≡ done (c.in-Done.width ∷ []) =
-    sym c.read-answer.ensures ∙ ap read_report c.in-Done.is in
-    c.check_at.ensures
-    ∙ ap (λ (L : Layout). check_at L c.args.bytes.now c.args.table.now) c.layout_in.ensures
-    ∙ sym (ap (λ (t : Outcome). and_then t (check_at (layout_of c.args.bytes.now) c.args.bytes.now c.args.table.now)) read_done)
+returns-in_err-record c =
+    reports nothing _ _ c.from_residual.ensures.1 ∙ sym (refused_first width_in _ c.read.ensures.outcome c.in_err-record.was)
+
+pub returns-in_err-refuse_unless : goal.returns-in_err-refuse_unless
+returns-in_err-refuse_unless c =
+    let f = failed Length refl c.refuse_unless.ensures c.in_err-refuse_unless.was in
+    exits nothing _ _ Length c.from_residual-in_err-refuse_unless.ensures.1 f.1
+    (goes_on _ _ c.read.ensures.outcome c.read.ensures.record c.in_ok-record.was ∙ rw f.0 refl)
+
+pub overflow_cast-record : goal.overflow_cast-record
+overflow_cast-record c = let z = sizes_of c.in_ok-record.record.sizes in omega (arith, entries_few z, z.byte)
+
+pub returns-in_err-refuse_large : goal.returns-in_err-refuse_large
+returns-in_err-refuse_large c =
+    let fits = held _ refl c.refuse_unless.ensures c.in_ok-refuse_unless.was in
+    reports nothing _ _ c.from_residual-in_err-refuse_large.ensures.1
+    ∙ sym (goes_on _ _ c.read.ensures.outcome c.read.ensures.record c.in_ok-record.was
+    ∙ rw fits (entry_large _ _ _ _ c.refuse_large.ensures c.in_err-refuse_large.was))
+
+pub first_difference-requires : goal.first_difference-requires
+first_difference-requires c = eqb-true _ _ (held _ refl c.refuse_unless.ensures c.in_ok-refuse_unless.was)
+
+pub returns-in-Some : goal.returns-in-Some
+returns-in-Some c =
+    let fits = held _ refl c.refuse_unless.ensures c.in_ok-refuse_unless.was in
+    sym (goes_on _ _ c.read.ensures.outcome c.read.ensures.record c.in_ok-record.was
+    ∙ rw fits (entries_small _ _ _ _ c.refuse_large.ensures c.in_ok-refuse_large.was
+    ∙ differs _ _ _ (sym c.first_difference.ensures ∙ c.in-Some.is)))
+
+pub returns-in-None : goal.returns-in-None
+returns-in-None c =
+    let fits = held _ refl c.refuse_unless.ensures c.in_ok-refuse_unless.was in
+    sym (goes_on _ _ c.read.ensures.outcome c.read.ensures.record c.in_ok-record.was
+    ∙ rw fits (entries_small _ _ _ _ c.refuse_large.ensures c.in_ok-refuse_large.was
+    ∙ agrees _ _ _ (sym c.first_difference.ensures ∙ c.in-None.is)))

@@ -1,12 +1,6 @@
--- `decomposition::equations::equations` meets its contract. The invariant: the equations below x are written.
-use mathlib.Core.Path.{◌≡◌}
-use Prim.Native.Nat.{◌-◌, ◌≤◌}
-use lib.ListN.{length}
+-- `equations::equations` meets its contract. The invariant: the rows of the inputs passed are written.
 use Rattle.decomposition.specs.Equations.{Rows}
 use Rattle.decomposition.proofs.equations.equations.Given as goal
 
 abbrev pub invariant-loop-x : goal.invariant-loop-x
-invariant-loop-x l = (l.x ≤ l.inputs) × (length l.work ≡ length l.initial.work) × Rows l.layout l.table l.basis l.x l.work
-
-abbrev pub decreases-loop-x : goal.decreases-loop-x
-decreases-loop-x l = l.inputs - l.x
+invariant-loop-x l = Rows l.problem.layout l.problem.table.now l.problem.basis.now l.x l.work

@@ -1,84 +1,57 @@
--- `decomposition::find` meets its contract.
-use mathlib.Core.List.{List}
+-- `fitting::find` meets its contract.
 use mathlib.Core.Path.{◌≡◌, ◌∙◌, ap, refl, subst}
 use Prim.Native.Nat.{◌-◌, ℕ, ◌+◌}
 use native.Mathlib.Omega.{arith}
-use lib.ListN.{length, length-drop, length-take, replicate, drop, take}
+use lib.ListN.{length, drop, take}
 use borrow.Rule.Slice.PartMut.{put_mid, put_same, same_len_mid}
+use Rattle.refusal.specs.declared.refusals.Refusal.TheVariants.{Undecomposable}
+use Rattle.refusal.specs.Outcome.{refused}
+use Rattle.refusal.specs.Refusals.{nothing, report}
+use Rattle.refusal.proofs.Exits.{held, failed, exits}
 use Rattle.decomposition.specs.Fit.{Decomposed}
 use Rattle.decomposition.specs.Record.{headed}
-use Rattle.decomposition.proofs.Sizes.{unknowns_few, width_few}
+use Rattle.decomposition.proofs.Sizes.{width_few}
 use Rattle.decomposition.proofs.Solved.{put_tail}
+use Rattle.decomposition.proofs.Whole.{sizes_of}
 use Rattle.decomposition.proofs.fitting.find.Goals as goal
 
-pub overflow_add-start : goal.overflow_add-start
-overflow_add-start c =
-    omega (arith, c.requires.sizes.basis, unknowns_few c.requires.sizes)
-
-pub decompose-solved-requires : goal.decompose-solved-requires
-decompose-solved-requires c = record {
-  sizes = c.requires.sizes;
-  solve_ready = record {
-    inputs = c.requires.fit_ready.inputs;
-    whole = c.requires.fit_ready.whole;
-    room = c.requires.fit_ready.room;
-    unknowns = simp (length-take, length-drop) (omega (arith, c.requires.fit_ready.record_room, c.requires.sizes.coefficients));
-    entries = c.requires.fit_ready.entries;
-    elements = c.requires.fit_ready.elements;
-  };
-}
+pub returns-in_err-refuse_unless-clause-found : goal.returns-in_err-refuse_unless-clause-found
+returns-in_err-refuse_unless-clause-found c =
+    let p = c.args.problem.now in
+    let head = 7 + p.layout.basis in
+    let rest = length c.args.out.now - head in
+    let f = failed Undecomposable refl c.refuse_unless.ensures c.in_err-refuse_unless.was in
+    let answer : report nothing c.from_residual.result ≡ refused 4 0 = exits nothing _ _ Undecomposable c.from_residual.ensures.1 f.1 refl in
+    let n = subst (Decomposed p.layout p.table.now p.basis.now (take rest (drop head c.args.out.now)) c.decompose-solved.new.p) f.0 c.decompose-solved.ensures in
+    rw answer record {
+      number_is = refl;
+      place_is = refl;
+      none = n.0;
+      unchanged = ap (put_mid head rest c.args.out.now) n.1 ∙ put_same head rest c.args.out.now;
+    }
 
 pub write_head-requires : goal.write_head-requires
 write_head-requires c =
-    -- the unknowns that are written
-    let unknowns : List ℕ =
-    c.decompose-solved.new.p in
-    -- the record, with them in its tail
-    let written : List ℕ =
-    put_mid (7 + c.args.layout.basis) (length c.args.out.now - (7 + c.args.layout.basis)) c.args.out.now unknowns in
-    -- the record is as long as it was
-    let same_room : length written ≡ length c.args.out.now =
-    same_len_mid (7 + c.args.layout.basis) (length c.args.out.now - (7 + c.args.layout.basis)) c.args.out.now unknowns c.decompose-solved.auto.p in
-    (width_few c.requires.sizes, omega (arith, width_few c.requires.sizes, c.requires.sizes.few_outputs), omega (arith, c.requires.fit_ready.whole, c.requires.fit_ready.record_room, c.requires.sizes.coefficients, same_room))
+    let p = c.args.problem.now in
+    let z = sizes_of p.sizes in
+    let head = 7 + p.layout.basis in
+    let room = same_len_mid head (length c.args.out.now - head) c.args.out.now c.decompose-solved.new.p c.decompose-solved.auto.p in
+    (width_few z, omega (arith, width_few z, z.few_outputs), omega (arith, p.whole, c.requires.1, z.coefficients, room))
 
-pub returns-then-solved : goal.returns-then-solved
-returns-then-solved c =
-    let unknowns : List ℕ =
-    c.decompose-solved.new.p in
-    let written : List ℕ =
-    put_mid (7 + c.args.layout.basis) (length c.args.out.now - (7 + c.args.layout.basis)) c.args.out.now unknowns in
-    -- the work is all zero, and as long as it was
-    let cleared : c.zero.new.bytes ≡ replicate (length c.args.work.now) 0 =
-    c.zero.ensures ∙ ap (λ (k : ℕ). replicate k 0) c.decompose-solved.auto.work in
-    let k = length c.args.out.now - (7 + c.args.layout.basis) in
-    let e : 7 + length c.args.basis.now ≡ 7 + c.args.layout.basis = omega (arith, c.requires.fit_ready.whole) in
-    let tail : drop (7 + length c.args.basis.now) written ≡ unknowns = ap (λ (h : ℕ). drop h written) e ∙ put_tail (7 + c.args.layout.basis) k c.args.out.now unknowns (omega (arith, c.requires.fit_ready.record_room, c.requires.sizes.coefficients)) in
+pub returns-clause-found : goal.returns-clause-found
+returns-clause-found c =
+    let p = c.args.problem.now in
+    let head = 7 + p.layout.basis in
+    let rest = length c.args.out.now - head in
+    let unknowns = c.decompose-solved.new.p in
+    let tail : drop (7 + length p.basis.now) (put_mid head rest c.args.out.now unknowns) ≡ unknowns =
+    ap (λ (k : ℕ). drop (7 + k) (put_mid head rest c.args.out.now unknowns)) p.whole
+    ∙ put_tail head rest c.args.out.now unknowns (omega (arith, c.requires.1, (sizes_of p.sizes).coefficients)) in
     record {
-      work_after = cleared;
-      found = record {
-        p = unknowns;
-        decomposition =
-            subst (Decomposed c.args.layout c.args.table.now c.args.basis.now (take k (drop (7 + c.args.layout.basis) c.args.out.now)) unknowns) c.if-solved.true c.decompose-solved.ensures;
-        whole = c.write_head.ensures ∙ ap (headed c.args.layout.width c.args.layout.outputs c.args.basis.now) tail;
-        nothing_more = refl;
-      };
-    }
-
-pub returns : goal.returns
-returns c =
-    let unknowns : List ℕ =
-    c.decompose-solved.new.p in
-    let cleared : c.zero.new.bytes ≡ replicate (length c.args.work.now) 0 =
-    c.zero.ensures ∙ ap (λ (k : ℕ). replicate k 0) c.decompose-solved.auto.work in
-    let k = length c.args.out.now - (7 + c.args.layout.basis) in
-    let n = subst (Decomposed c.args.layout c.args.table.now c.args.basis.now (take k (drop (7 + c.args.layout.basis) c.args.out.now)) unknowns) c.if-solved.false
-    c.decompose-solved.ensures in
-    record {
-      work_after = cleared;
-      found = rw c.refuse.ensures record {
-        number_is = refl;
-        place_is = refl;
-        none = n.0;
-        unchanged = ap (put_mid (7 + c.args.layout.basis) k c.args.out.now) n.1 ∙ put_same (7 + c.args.layout.basis) k c.args.out.now;
-      };
+      p = unknowns;
+      decomposition =
+          subst (Decomposed p.layout p.table.now p.basis.now (take rest (drop head c.args.out.now)) unknowns)
+          (held _ refl c.refuse_unless.ensures c.in_ok-refuse_unless.was) c.decompose-solved.ensures;
+      whole = c.write_head.ensures ∙ ap (headed p.layout.width p.layout.outputs p.basis.now) tail;
+      nothing_more = refl;
     }

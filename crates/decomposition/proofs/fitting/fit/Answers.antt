@@ -1,58 +1,48 @@
--- `decomposition::fit` meets its contract. By the width and the output bits.
-use mathlib.Core.Bool.{false}
-use mathlib.Core.Path.{◌≡◌, refl}
-use Rattle.refusal.proofs.Outcome.{test_fails, test_passes}
-use Rattle.decomposition.specs.Layout.{known, paired, Known, Pair}
+-- `fitting::fit` meets its contract: by the pair, then by what the tests come to.
+use mathlib.Core.Path.{◌∙◌, ap, sym}
+use Rattle.std.proofs.lemmas.Result.{IfOk-at_ok}
+use Rattle.refusal.specs.Refusals.{nothing, report}
+use Rattle.refusal.proofs.Exits.{reports}
 use Rattle.decomposition.specs.Fit.{FitCall}
-use Rattle.decomposition.proofs.Ready.{fit_at_pair}
+use Rattle.decomposition.specs.Layout.{Sizes}
+use Rattle.decomposition.proofs.Ready.{refused_at, tested}
 use Rattle.decomposition.proofs.Sizes.{sizes}
-use Rattle.decomposition.proofs.Total.{fit_end_lem}
-use mathlib.Core.Path.{ap}
-use mathlib.Core.Bool.{not}
+use Rattle.decomposition.proofs.Tests.{pair_passes, pair_stops}
+use Rattle.decomposition.proofs.Total.{fit_end_lem, fit_finds, fit_refused}
+use Rattle.decomposition.proofs.Whole.{sizes_of}
 use Rattle.decomposition.proofs.fitting.fit.Goals as goal
 
-pub returns-then-not-known : goal.returns-then-not-known
-returns-then-not-known c =
+pub returns-in_err-layout : goal.returns-in_err-layout
+returns-in_err-layout c =
     -- what the slices hold at entry
-    let call : FitCall =
-    record { table = c.args.table.now; basis = c.args.basis.now; work = c.args.work.now; out = c.args.out.now } in
-    let k : known c.args.width ≡ false = test_fails c.known.ensures (ap not c.if-not-known.true) in
-    fit_end_lem c.args.width c.args.outputs call _ (rw k (c.refuse.ensures, refl, refl))
+    let call : FitCall = record { table = c.args.table.now; basis = c.args.basis.now; work = c.args.work.now; out = c.args.out.now } in
+    let stops = pair_stops c.args.width c.args.outputs _ (sym c.of.ensures.outcome ∙ ap (report _) c.in_err-layout.was) in
+    rw (reports nothing _ _ c.from_residual.ensures.1) (fit_end_lem c.args.width c.args.outputs call _ (refused_at _ call _ _ stops))
 
-pub returns-then-not-paired : goal.returns-then-not-paired
-returns-then-not-paired c =
-    let call : FitCall =
-    record { table = c.args.table.now; basis = c.args.basis.now; work = c.args.work.now; out = c.args.out.now } in
-    -- the width is known
-    let width_right : Known c.args.width =
-    test_passes c.known.ensures (ap not c.if-not-known.false) in
-    let k : paired c.args.width c.args.outputs ≡ false = test_fails c.paired.ensures (ap not c.if-not-paired.true) in
-    fit_end_lem c.args.width c.args.outputs call _ (rw (width_right, k) (c.refuse-then-not-paired.ensures, refl, refl))
+pub fit_tests-requires : goal.fit_tests-requires
+fit_tests-requires c =
+    let pair = pair_passes c.args.width c.args.outputs (sym c.of.ensures.outcome ∙ ap (report _) c.in_ok-layout.was) in
+    rw (IfOk-at_ok _ c.in_ok-layout.was c.of.ensures.layout) (sizes _ _ pair)
 
-pub layout_of-requires : goal.layout_of-requires
-layout_of-requires c =
-    let width_right : Known c.args.width =
-    test_passes c.known.ensures (ap not c.if-not-known.false) in
-    -- and the output bits pair with it
-    let pair_right : Pair c.args.width c.args.outputs =
-    record { width = width_right; outputs = test_passes c.paired.ensures (ap not c.if-not-paired.false) } in
-    pair_right
+pub returns-in_err-problem : goal.returns-in_err-problem
+returns-in_err-problem c =
+    let call : FitCall = record { table = c.args.table.now; basis = c.args.basis.now; work = c.args.work.now; out = c.args.out.now } in
+    let pair = pair_passes c.args.width c.args.outputs (sym c.of.ensures.outcome ∙ ap (report _) c.in_ok-layout.was) in
+    rw (reports nothing _ _ c.from_residual-in_err-problem.ensures.1)
+    (fit_refused c.args.width c.args.outputs call c.in_ok-layout.layout pair (IfOk-at_ok _ c.in_ok-layout.was c.of.ensures.layout)
+    (sym c.fit_tests.ensures.outcome ∙ ap (report _) c.in_err-problem.was))
 
-pub fit_at-requires : goal.fit_at-requires
-fit_at-requires c =
-    let width_right : Known c.args.width =
-    test_passes c.known.ensures (ap not c.if-not-known.false) in
-    let pair_right : Pair c.args.width c.args.outputs =
-    record { width = width_right; outputs = test_passes c.paired.ensures (ap not c.if-not-paired.false) } in
-    rw c.layout_of.ensures (sizes _ _ pair_right)
+pub find-requires : goal.find-requires
+find-requires c =
+    let parts = IfOk-at_ok _ c.in_ok-problem.was c.fit_tests.ensures.problem in
+    let z : Sizes c.in_ok-layout.layout = rw (← parts.0) (sizes_of c.in_ok-problem.problem.sizes) in
+    let t = tested z _ _ _ _ (sym c.fit_tests.ensures.outcome ∙ ap (report _) c.in_ok-problem.was) in
+    rw parts.0 (t.room, t.record_room)
 
 pub returns : goal.returns
 returns c =
-    let call : FitCall =
-    record { table = c.args.table.now; basis = c.args.basis.now; work = c.args.work.now; out = c.args.out.now } in
-    let width_right : Known c.args.width =
-    test_passes c.known.ensures (ap not c.if-not-known.false) in
-    let pair_right : Pair c.args.width c.args.outputs =
-    record { width = width_right; outputs = test_passes c.paired.ensures (ap not c.if-not-paired.false) } in
-    fit_end_lem c.args.width c.args.outputs call _
-    (fit_at_pair c.layout_of.result call c.args.width c.args.outputs pair_right c.layout_of.ensures _ c.fit_at.ensures)
+    let call : FitCall = record { table = c.args.table.now; basis = c.args.basis.now; work = c.args.work.now; out = c.args.out.now } in
+    let pair = pair_passes c.args.width c.args.outputs (sym c.of.ensures.outcome ∙ ap (report _) c.in_ok-layout.was) in
+    let parts = IfOk-at_ok _ c.in_ok-problem.was c.fit_tests.ensures.problem in
+    fit_finds c.args.width c.args.outputs call c.in_ok-layout.layout pair (IfOk-at_ok _ c.in_ok-layout.was c.of.ensures.layout) _
+    (sym c.fit_tests.ensures.outcome ∙ ap (report _) c.in_ok-problem.was) (c.find.ensures.work_after, rw (parts.0, parts.1, parts.2) at c.find.ensures.found)

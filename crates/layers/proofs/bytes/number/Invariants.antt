@@ -1,12 +1,9 @@
--- `bytes::number` meets its contract. The invariant: x is the number that the first j bytes are.
+-- `bytes::number` meets its contract. The invariant: x is the number that the bytes so far are.
 use mathlib.Core.Path.{◌≡◌}
-use Prim.Native.Nat.{◌-◌, ◌*◌, ◌^◌, ◌≤◌, ◌<◌}
+use Prim.Native.Nat.{◌*◌, ◌^◌, ◌<◌}
 use Rattle.steps.specs.Bytes.{from_bytes}
 use Rattle.steps.specs.ShareBytes.{bytes_at}
 use Rattle.layers.proofs.bytes.number.Given as goal
 
-abbrev pub invariant-loop-j : goal.invariant-loop-j
-invariant-loop-j l = (l.j ≤ l.w) × (l.x ≡ from_bytes (bytes_at l.at l.j l.l)) × (l.x < 2 ^ (8 * l.j))
-
-abbrev pub decreases-loop-j : goal.decreases-loop-j
-decreases-loop-j l = l.w - l.j
+abbrev pub invariant-loop-b : goal.invariant-loop-b
+invariant-loop-b l = (l.x ≡ from_bytes (bytes_at 0 l.b-index l.bytes)) × (l.x < 2 ^ (8 * l.b-index))

@@ -1,15 +1,15 @@
 -- `share::add_number` meets its contract.
+use mathlib.Core.Path.{◌≡◌, refl, ap, ap₂, ◌∙◌}
 use native.Mathlib.Omega.{arith}
-use lib.ListN.{length-set}
-use Rattle.xor.specs.Xor.{◌⊕◌}
-use Rattle.layers.proofs.State.{changed_number}
 use borrow.Author.Rules.{rules}
+use Rattle.xor.specs.Xor.{◌⊕◌}
+use Rattle.present.specs.Present.{size80, round_number}
+use Rattle.layers.proofs.State.{share_lent, changed_lent}
 use Rattle.layers.proofs.share.add_number.Goals as goal
 
-pub bounds-key-7-2 : goal.bounds-key-7-2
-bounds-key-7-2 c = simp length-set (omega arith)
-
 pub returns : goal.returns
-unfolding ◌⊕◌
 returns c =
-    changed_number c.args.r c.args.key.now (λ j. search rules) (search rules) (search rules)
+    let number : round_number size80 c.from.result ≡ round_number size80 c.args.r = ap (round_number size80) c.from.ensures in
+    changed_lent 10 0 {a = 0} {n = 10} _ _ refl refl (omega arith) (search rules)
+    (c.store.ensures ∙ c.add_number.ensures
+    ∙ ap₂ ◌⊕◌ (c.load.ensures ∙ share_lent 10 0 {a = 0} {n = 10} _ refl refl (omega arith)) number)

@@ -22,11 +22,11 @@ loop-i-preserved c =
 pub returns : goal.returns
 unfolding sharing shares_of
 returns c =
-    let h : c.args.s ≤ 9 = search rules in
+    let h : c.args.s.count ≤ 9 = search rules in
     let k = share_at 10 c.args.key.now in
     record {
       block_after = turned_all c.loop-i.invariant c.loop-i-test.false
-          ∙ sym (rw (map_given c.args.s h (round_key_linear present.size80 sound80) k)
-          (wise_given c.args.s h (sum_linear 64) (λ i. present.round_key present.size80 (k i)) (share_at 8 c.args.block.now)));
+          ∙ sym (rw (map_given c.args.s.count h (round_key_linear present.size80 sound80) k)
+          (wise_given c.args.s.count h (sum_linear 64) (λ i. present.round_key present.size80 (k i)) (share_at 8 c.args.block.now)));
       kept_past = c.loop-i.invariant.past;
     }

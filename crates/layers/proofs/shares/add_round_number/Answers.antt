@@ -8,6 +8,6 @@ use Rattle.layers.proofs.shares.add_round_number.Goals as goal
 pub returns : goal.returns
 returns c =
     record {
-      key_after = changed_alone c.args.s (present.round_number present.size80 c.args.r) (search rules) (search rules) c.add_number.ensures;
+      key_after = changed_alone c.args.s.count (present.round_number present.size80 c.args.r) (search rules) (search rules) c.add_number.ensures;
       kept_past = changed_kept (search rules) c.add_number.ensures;
     }

@@ -13,7 +13,7 @@ pub loop-i-init : goal.loop-i-init
 loop-i-init c = (search rules, filled_none _)
 
 pub nibble-requires : goal.nibble-requires
-nibble-requires c = (search rules, omega (arith, share_before c.args.w c.loop-i.i c.args.s c.loop-i-test.true))
+nibble-requires c = (search rules, omega (arith, share_before c.args.w c.loop-i.i c.args.s.count c.loop-i-test.true))
 
 pub loop-i-preserved : goal.loop-i-preserved
 loop-i-preserved c = (search rules, filled_set (omega arith) c.nibble.ensures c.loop-i.invariant.1)
@@ -21,6 +21,6 @@ loop-i-preserved c = (search rules, filled_set (omega arith) c.nibble.ensures c.
 pub returns : goal.returns
 unfolding sharing shares_of
 returns c =
-    let e : c.loop-i.i ≡ c.args.s = omega arith in
-    filled_given c.args.s (search rules) (rw e at c.loop-i.invariant.1)
-    ∙ sym (map_given c.args.s (search rules) (nibble_linear 0 c.args.k) (share_at c.args.w c.args.l.now))
+    let e : c.loop-i.i ≡ c.args.s.count = omega arith in
+    filled_given c.args.s.count (search rules) (rw e at c.loop-i.invariant.1)
+    ∙ sym (map_given c.args.s.count (search rules) (nibble_linear 0 c.args.k) (share_at c.args.w c.args.l.now))

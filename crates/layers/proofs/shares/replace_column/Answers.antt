@@ -20,8 +20,8 @@ loop-i-init c = (refl, turned_none)
 pub replace-requires : goal.replace-requires
 replace-requires c = (
   search rules,
-  omega (arith, share_before c.args.w c.loop-i.i c.args.s c.loop-i-test.true),
-  c.requires.v_len.1.small c.loop-i.i,
+  omega (arith, share_before c.args.w c.loop-i.i c.args.s.count c.loop-i-test.true),
+  c.requires.v_sharing.1.small c.loop-i.i,
 )
 
 pub loop-i-preserved : goal.loop-i-preserved
@@ -34,11 +34,11 @@ loop-i-preserved c = (
 pub returns : goal.returns
 unfolding sharing shares_of
 returns c =
-    let h : c.args.s ≤ 9 = search rules in
-    let e : c.args.v.now ≡ held (tabulate c.args.s (share c.args.v.now)) = is_given c.args.s h (share c.args.v.now) c.args.v.now c.requires.v_len.0 (λ i k. refl) c.requires.v_len.1.past in
+    let h : c.args.s.count ≤ 9 = search rules in
+    let e : c.args.v.now ≡ held (tabulate c.args.s.count (share c.args.v.now)) = is_given c.args.s.count h (share c.args.v.now) c.args.v.now c.requires.v_sharing.0 (λ i k. refl) c.requires.v_sharing.1.past in
     record {
       l_after = turned_all c.loop-i.invariant.1 c.loop-i-test.false
-          ∙ sym (ap (λ (b : List ℕ). share_wise (present.replace c.args.k) (sharing c.args.w c.args.s c.args.l.now) b) e
-          ∙ wise_given c.args.s h (replace_linear (4 * c.args.k + 4) c.args.k (omega arith)) (share_at c.args.w c.args.l.now) (share c.args.v.now));
+          ∙ sym (ap (λ (b : List ℕ). share_wise (present.replace c.args.k) (sharing c.args.w c.args.s.count c.args.l.now) b) e
+          ∙ wise_given c.args.s.count h (replace_linear (4 * c.args.k + 4) c.args.k (omega arith)) (share_at c.args.w c.args.l.now) (share c.args.v.now));
       kept_past = c.loop-i.invariant.1.past;
     }

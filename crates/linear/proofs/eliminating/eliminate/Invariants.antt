@@ -1,14 +1,10 @@
--- `linear::eliminate` meets its contract. The invariant: c columns are done (`Eliminated`).
+-- `linear::eliminate` meets its contract. The invariant: the columns passed are reduced (`Eliminated`).
 use mathlib.Core.Path.{◌≡◌}
-use Prim.Native.Nat.{◌-◌, ◌≤◌}
 use lib.ListN.{length}
-use Rattle.linear.specs.Buffer.{cell}
-use Rattle.linear.specs.Elimination.{Eliminated}
-use Rattle.linear.specs.Scalars.{scalars}
+use Rattle.linear.specs.Shape.{EliminatedIn}
 use Rattle.linear.proofs.eliminating.eliminate.Given as goal
 
-abbrev pub invariant-loop-c : goal.invariant-loop-c
-invariant-loop-c l = (l.c ≤ l.unknowns) × (length l.matrix ≡ length l.initial.matrix) × Eliminated (scalars l.width) l.rows l.w (cell l.w l.initial.matrix) (cell l.w l.matrix) l.c l.rank
-
-abbrev pub decreases-loop-c : goal.decreases-loop-c
-decreases-loop-c l = l.unknowns - l.c
+abbrev pub invariant-loop-column : goal.invariant-loop-column
+invariant-loop-column g l = let s = g.M.Matrix.shape l.system in
+    (length l.matrix ≡ length l.initial.matrix)
+    × EliminatedIn s l.initial.matrix l.matrix l.column l.rank

@@ -1,19 +1,20 @@
 -- `linear::add_bits` meets its contract: the groups, and then what is left.
 use mathlib.Core.Path.{◌≡◌}
-use Prim.Native.Nat.{◌+◌, ◌-◌}
+use Prim.Native.Nat.{◌+◌, ◌-◌, ◌*◌, ◌/◌}
 use native.Mathlib.Omega.{arith}
-use Rattle.linear.proofs.Packed.{bytes_added, more_added}
+use lib.ListN.{length}
+use Rattle.linear.proofs.Buffer.{overwritten_first}
+use Rattle.linear.proofs.Packed.{more_added, part_added}
 use Rattle.linear.proofs.packing.add_bits.Goals as goal
-
-pub overflow_sub-count : goal.overflow_sub-count
-overflow_sub-count c = omega (arith, c.add_groups-k.ensures.upper_bound)
-
-pub add_bytes-requires : goal.add_bytes-requires
-add_bytes-requires c =
-    (omega (arith, c.add_groups-k.ensures.upper_bound, c.add_groups-k.auto.matrix, c.requires), omega (arith, c.add_groups-k.ensures.upper_bound, c.requires))
 
 pub returns : goal.returns
 returns c =
-    let e : c.add_groups-k.result + (c.args.count - c.add_groups-k.result) ≡ c.args.count = omega (arith, c.add_groups-k.ensures.upper_bound) in
-    bytes_added c.args.matrix.now c.add_bytes.new.matrix c.args.row.now c.args.a c.args.b c.args.count
-    (rw e at (more_added c.args.matrix.now c.add_groups-k.new.matrix c.args.row.now c.args.a c.args.b c.add_groups-k.result (c.args.count - c.add_groups-k.result) c.add_groups-k.ensures.overwritten c.add_bytes.ensures))
+    let l = c.args.row.now in
+    let m = c.args.other.now in
+    let groups = c.add_groups.new.row in
+    let k = length l / 8 * 8 in
+    let e = length l - k in
+    let whole : k + e ≡ length l = omega arith in
+    overwritten_first (rw whole at (more_added l groups m k e c.add_groups.ensures
+    (part_added k k (length groups - k) (length m - k) groups m c.add_bytes.new.row (omega (arith, c.add_groups.auto.row)) (omega (arith, c.add_groups.auto.row))
+    (omega (arith, c.requires)) c.add_bytes.auto.row c.add_bytes.ensures)))

@@ -1,15 +1,11 @@
--- `linear::add_multiple` meets its contract. The invariant: the first k bytes of the row at a are the sums, and all else is as it was (`Overwritten`).
+-- `linear::add_multiple` meets its contract. The invariant: the entries passed are the sums, and the others are as they were.
 use mathlib.Core.Path.{◌≡◌}
-use Prim.Native.Nat.{◌-◌, ◌≤◌}
-use lib.ListN.{get_or, length}
-use Rattle.linear.specs.Buffer.{Overwritten, from}
+use lib.ListN.{length}
+use Rattle.linear.specs.Buffer.{Overwritten, bytes}
 use Rattle.linear.specs.Row.{plus, times}
 use Rattle.linear.specs.Scalars.{scalars}
 use Rattle.linear.proofs.rows.add_multiple.Given as goal
 
-abbrev pub invariant-loop-k : goal.invariant-loop-k
-invariant-loop-k l = (l.k ≤ l.columns) × (length l.matrix ≡ length l.initial.matrix)
-    × Overwritten l.initial.matrix l.matrix l.a l.k (plus (scalars l.width) (from l.initial.matrix l.a) (times (scalars l.width) l.f (λ j. get_or l.row j 0)))
-
-abbrev pub decreases-loop-k : goal.decreases-loop-k
-decreases-loop-k l = l.columns - l.k
+abbrev pub invariant-loop-i : goal.invariant-loop-i
+invariant-loop-i l = (length l.row ≡ length l.initial.row)
+    × Overwritten l.initial.row l.row 0 l.i (plus (scalars l.width) (bytes l.initial.row) (times (scalars l.width) l.factor (bytes l.other)))

@@ -1,31 +1,24 @@
 -- `linear::solve` meets its contract. What the reduced matrix says of the one that came in: `read_off_canonical` and `read_off_none`.
 use mathlib.Core.Path.{refl}
-use Prim.Native.Nat.{◌+◌}
-use native.Mathlib.Omega.{arith}
-use Rattle.linear.specs.Buffer.{cell}
+use Rattle.linear.specs.Shape.{cells}
 use Rattle.linear.proofs.ReadOff.{read_off_none, read_off_canonical}
-use Rattle.linear.proofs.Scalars.{laws_of}
 use Rattle.linear.proofs.solving.solve.Goals as goal
 
-pub returns-then-p-rows : goal.returns-then-p-rows
-returns-then-p-rows c =
-    let w = c.args.unknowns + 1 in
-    record {
-      reducing = record { rank = c.eliminate-rank.result; eliminated = c.eliminate-rank.ensures };
-      solved = (
-        read_off_none (laws_of c.requires.narrow) c.args.rows c.args.unknowns w c.eliminate-rank.result (omega arith) (cell w c.args.matrix.now)
-            (cell w c.eliminate-rank.new.matrix) c.eliminate-rank.ensures
-            c.find_pivot-p.result c.find_pivot-p.ensures.after c.if-p-rows.true (c.find_pivot-p.ensures.found c.if-p-rows.true),
-        refl,
-      );
-    }
+pub returns-in-Some-clause-solved : goal.returns-in-Some-clause-solved
+returns-in-Some-clause-solved g c =
+    let s = g.M.Matrix.shape c.args.system in
+    let laws = g.M.Matrix.laws c.args.system in
+    let pivot = rw c.unknowns.ensures at c.in-Some.ensures in (
+      read_off_none laws.field s.rows s.unknowns s.columns c.eliminate-rank.result laws.right_side (cells s c.args.matrix.now) (cells s c.eliminate-rank.new.matrix)
+          c.eliminate-rank.ensures _ pivot.after pivot.within pivot.found,
+      refl,
+    )
 
-pub returns : goal.returns
-returns c =
-    let w = c.args.unknowns + 1 in
-    record {
-      reducing = record { rank = c.eliminate-rank.result; eliminated = c.eliminate-rank.ensures };
-      solved = read_off_canonical (laws_of c.requires.narrow) c.args.rows c.args.unknowns w c.eliminate-rank.result (omega arith) (cell w c.args.matrix.now)
-          (cell w c.eliminate-rank.new.matrix) c.eliminate-rank.ensures
-          (λ i g l. c.find_pivot-p.ensures.skipped i g (omega (arith, c.if-p-rows.false))) _ c.read_off.ensures;
-    }
+pub returns-in-None-clause-solved : goal.returns-in-None-clause-solved
+returns-in-None-clause-solved g c =
+    let s = g.M.Matrix.shape c.args.system in
+    let laws = g.M.Matrix.laws c.args.system in (
+      read_off_canonical laws.field s.rows s.unknowns s.columns c.eliminate-rank.result laws.right_side (cells s c.args.matrix.now) (cells s c.eliminate-rank.new.matrix)
+          c.eliminate-rank.ensures (rw c.unknowns.ensures at c.in-None.ensures) _ c.read_off.ensures.read,
+      c.read_off.ensures.small,
+    )

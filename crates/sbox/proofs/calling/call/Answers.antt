@@ -1,37 +1,27 @@
--- `call` meets its contract: a run from the start, of the shares in nine places, by what follows the record's head.
+-- `call` meets its contract: the shares stand in nine places, 0 past them.
 use mathlib.Core.Path.{◌≡◌, ap, ◌∙◌}
-use Prim.Native.Nat.{ℕ, ◌-◌}
-use native.Mathlib.Omega.{arith}
-use lib.ListN.{length, take, drop}
-use Rattle.decomposition.specs.Record.{coefficients_of}
-use Rattle.decomposition.proofs.ReadOutcome.{head_within}
-use Rattle.decomposition.proofs.Tests.{whole_part}
-use Rattle.sbox.proofs.Calls.{record_room, call_ready, call_program_lem}
+use mathlib.Core.List.{List, ◌++◌}
+use Prim.Native.Nat.{ℕ}
+use lib.ListN.{length, drop, replicate}
+use Rattle.sbox.proofs.Places.{sbox_same}
+use Rattle.sbox.proofs.Calls.{padded}
+use Rattle.sbox.specs.Form.{basis_in, solution_in}
+use Rattle.sbox.specs.Operations.{layout_program}
+use Rattle.decomposition.specs.declared.layouts.Layout.{Layout}
 use Rattle.sbox.proofs.calling.call.Goals as goal
 
-pub outputs_of-outputs-requires : goal.outputs_of-outputs-requires
-outputs_of-outputs-requires c = head_within _ _ c.requires.callable.accepted
+-- the program goes by the shares alone
+same_program : (L : Layout) (cs : List ℕ) (s : ℕ) (x shares : List ℕ) → x ≡ shares
+    → layout_program L cs s (x ++ drop (length shares) (replicate 9 0)) ≡ layout_program L cs s shares
+same_program L cs s x shares e =
+    ap (λ (l : List ℕ). layout_program L cs s (l ++ drop (length shares) (replicate 9 0))) e
+    ∙ sbox_same L.width s (shares ++ drop (length shares) (replicate 9 0)) shares (padded shares (length shares) 9)
+    (basis_in L.width L.outputs cs) (solution_in L.width L.outputs cs)
 
-pub head_of-requires : goal.head_of-requires
-head_of-requires c = (head_within _ _ c.requires.callable.accepted).0
-
-pub slice_bounds-coefficients-count : goal.slice_bounds-coefficients-count
-slice_bounds-coefficients-count c = omega (arith, c.head_of.ensures, head_within _ _ c.requires.callable.accepted)
-
-pub run-requires : goal.run-requires
-run-requires c =
-    -- what follows it is the coefficients
-    let rest : take (length c.args.rec.now - c.head_of.result) (drop c.head_of.result c.args.rec.now) ≡ coefficients_of c.args.rec.now =
-    whole_part c.head_of.result c.args.rec.now ∙ ap (λ (k : ℕ). drop k c.args.rec.now) c.head_of.ensures in
-    record {
-      pair = rw c.outputs_of-outputs.ensures c.requires.callable.accepted.pair;
-      s_bound = (c.requires.callable.nine, rw (c.outputs_of-outputs.ensures, rest) (record_room c.requires.callable.accepted));
-      ready = rw (c.zero-n.ensures, c.outputs_of-outputs.ensures, rest, call_program_lem c.nine-x.result c.requires.callable c.nine-x.ensures) (call_ready c.requires.callable c.requires.watch_len);
-    }
+pub run-requires-clause-ready : goal.run-requires-clause-ready
+run-requires-clause-ready g c =
+    rw (same_program c.args.decomposition.layout c.args.decomposition.coefficients.now c.args.s.count _ _ c.copy_from_slice.ensures.after) c.requires.ready
 
 pub returns : goal.returns
-returns c =
-    let rest : take (length c.args.rec.now - c.head_of.result) (drop c.head_of.result c.args.rec.now) ≡ coefficients_of c.args.rec.now =
-    whole_part c.head_of.result c.args.rec.now ∙ ap (λ (k : ℕ). drop k c.args.rec.now) c.head_of.ensures in
-    rw (← call_program_lem c.nine-x.result c.requires.callable c.nine-x.ensures)
-    (rw (c.zero-n.ensures, c.outputs_of-outputs.ensures, rest) at c.run.ensures)
+returns g c =
+    rw (same_program c.args.decomposition.layout c.args.decomposition.coefficients.now c.args.s.count _ _ c.copy_from_slice.ensures.after) at c.run.ensures

@@ -1,27 +1,29 @@
 -- `evaluate` meets its contract: x is put into the table, its rows are filled, and the sums are made.
+use mathlib.Core.Path.{◌≡◌}
+use Prim.Native.Nat.{◌+◌, ◌-◌}
 use native.Mathlib.Omega.{arith}
+use lib.ListN.{drop, take, length-drop}
+use lib.Seq.{take_all}
 use Rattle.steps.proofs.Parts.{ready_first, ready_next, went_then}
-use Rattle.steps.proofs.StepsAlone.{ready_steps, went_counted}
-use Rattle.sbox.proofs.TableRuns.{totals_alone}
 use Rattle.sbox.specs.TableSteps as spec
 use Rattle.sbox.proofs.evaluation.evaluate.Goals as goal
 
-pub fill_rows-n-requires : goal.fill_rows-n-requires
+pub fill_rows-requires-clause-ready : goal.fill_rows-requires-clause-ready
 unfolding spec.sbox_rows
-fill_rows-n-requires c =
-    record { known = c.requires.known; s_bound = omega arith; ready = rw c.put.ensures (ready_first _ _ c.requires.ready) }
+fill_rows-requires-clause-ready g c = ready_first _ _ c.requires.ready
 
-pub totals-u-requires : goal.totals-u-requires
+pub total-requires-clause-ready : goal.total-requires-clause-ready
 unfolding spec.sbox_rows
-totals-u-requires c =
-    let w = rw c.put.ensures at c.fill_rows-n.ensures in
-    record {
-      s_bound = omega (arith, c.requires.s_bound);
-      ready_steps = ready_steps (totals_alone _ _ _ _) (ready_next _ c.requires.ready w (omega (arith, c.fill_rows-n.auto)));
-    }
+total-requires-clause-ready g c =
+    let i = g.row.POWERS + c.args.h in
+    let rest : take (25 - i) (drop i c.fill_rows.new.t) ≡ drop i c.fill_rows.new.t =
+    take_all (25 - i) (drop i c.fill_rows.new.t) (omega (arith, length-drop i c.fill_rows.new.t, c.fill_rows.array_long)) in
+    rw rest (ready_next _ c.requires.ready c.fill_rows.ensures)
 
 pub returns : goal.returns
 unfolding spec.sbox_rows
-returns c =
-    rw (← c.put.ensures)
-    (went_then _ c.fill_rows-n.ensures (went_counted (totals_alone _ _ _ _) c.with_steps.ensures c.totals-u.ensures))
+returns g c =
+    let i = g.row.POWERS + c.args.h in
+    let rest : take (25 - i) (drop i c.fill_rows.new.t) ≡ drop i c.fill_rows.new.t =
+    take_all (25 - i) (drop i c.fill_rows.new.t) (omega (arith, length-drop i c.fill_rows.new.t, c.fill_rows.array_long)) in
+    went_then _ c.fill_rows.ensures (rw rest at c.total.ensures)

@@ -1,39 +1,43 @@
 -- `fill_rows` meets its contract: the powers, the polynomials and the products.
 use native.Mathlib.Omega.{arith}
 use Rattle.steps.proofs.Parts.{ready_first, ready_next, went_then}
-use Rattle.steps.proofs.StepsAlone.{ready_steps, went_counted}
+use Rattle.decomposition.proofs.Whole.{sizes_of}
+use Rattle.sbox.proofs.TableRuns.{basis_room, solution_room}
 use Rattle.sbox.specs.TableSteps as spec
-use Rattle.sbox.proofs.TableRuns.{polynomials_alone}
 use Rattle.sbox.proofs.evaluation.fill_rows.Goals as goal
 
-pub powers-n-requires : goal.powers-n-requires
+pub powers-requires-clause-ready : goal.powers-requires-clause-ready
 unfolding spec.fill_rows
-powers-n-requires c = record { known = c.requires.known; s_bound = omega arith; ready = ready_first _ _ c.requires.ready }
+powers-requires-clause-ready g c = ready_first _ _ c.requires.ready
 
-pub polynomials-next-requires : goal.polynomials-next-requires
-unfolding spec.fill_rows
-polynomials-next-requires c =
-    let y = ready_next _ c.requires.ready c.powers-n.ensures (omega (arith, c.powers-n.auto)) in
-    record {
-      known = c.requires.known;
-      s_bound = omega arith;
-      ready_steps = ready_steps (polynomials_alone _ _ _ _ _ _) (ready_first _ _ y);
-    }
+pub polynomials-requires-clause-bounds : goal.polynomials-requires-clause-bounds
+polynomials-requires-clause-bounds g c =
+    (omega (arith, c.requires.sized.powers, c.requires.sized.few), rw c.basis.ensures.1 (basis_room (sizes_of c.args.decomposition.sizes) c.requires.sized))
 
-pub products-requires : goal.products-requires
+pub polynomials-requires-clause-ready : goal.polynomials-requires-clause-ready
 unfolding spec.fill_rows
-products-requires c =
-    let y = ready_next _ c.requires.ready c.powers-n.ensures (omega (arith, c.powers-n.auto)) in
-    let went = went_counted (polynomials_alone _ _ _ _ _ _) c.with_steps-n.ensures c.polynomials-next.ensures in
-    record {
-      known = c.requires.known;
-      s_bound = omega (arith, c.requires.s_bound);
-      ready = ready_next _ y went (omega (arith, c.polynomials-next.auto));
-    }
+polynomials-requires-clause-ready g c = rw c.basis.ensures.0 (ready_first _ _ (ready_next _ c.requires.ready c.powers.ensures))
+
+pub polynomials-requires-2-clause-bounds : goal.polynomials-requires-2-clause-bounds
+polynomials-requires-2-clause-bounds g c =
+    (omega (arith, c.requires.sized.powers, c.requires.sized.few), rw c.solution.ensures.1 (solution_room (sizes_of c.args.decomposition.sizes) c.requires.sized))
+
+pub polynomials-requires-2-clause-ready : goal.polynomials-requires-2-clause-ready
+unfolding spec.fill_rows
+polynomials-requires-2-clause-ready g c =
+    let basis = rw c.basis.ensures.0 at c.polynomials.ensures in
+    rw c.solution.ensures.0 (ready_first _ _ (ready_next _ (ready_next _ c.requires.ready c.powers.ensures) basis))
+
+pub products-requires-clause-ready : goal.products-requires-clause-ready
+unfolding spec.fill_rows
+products-requires-clause-ready g c =
+    let basis = rw c.basis.ensures.0 at c.polynomials.ensures in
+    let solution = rw c.solution.ensures.0 at c.polynomials-2.ensures in
+    ready_next _ (ready_next _ (ready_next _ c.requires.ready c.powers.ensures) basis) solution
 
 pub returns : goal.returns
 unfolding spec.fill_rows
-returns c =
-    went_then _ c.powers-n.ensures
-    (went_then _ (went_counted (polynomials_alone _ _ _ _ _ _) c.with_steps-n.ensures c.polynomials-next.ensures)
-    c.products.ensures)
+returns g c =
+    let basis = rw c.basis.ensures.0 at c.polynomials.ensures in
+    let solution = rw c.solution.ensures.0 at c.polynomials-2.ensures in
+    went_then _ c.powers.ensures (went_then _ basis (went_then _ solution c.products.ensures))

@@ -1,23 +1,29 @@
 -- `polynomial` meets its contract: a loop over the shares.
+use mathlib.Core.Path.{◌≡◌}
+use Prim.Native.Nat.{◌-◌}
 use native.Mathlib.Omega.{arith}
-use borrow.Author.Rules.{rules}
-use Rattle.steps.proofs.Loop.{going, going_ready, going_on, gone}
-use Rattle.sbox.specs.TableSteps as spec
+use lib.ListN.{length, set}
+use Rattle.field.specs.Polynomial.{exponents}
+use Rattle.steps.proofs.Loop.{going_ready, going_on, gone}
+use Rattle.steps.proofs.Parts.{ready_first, went_map}
+use Rattle.product.specs.ByShare as by_share
+use Rattle.sbox.specs.Sbox as sbox
 use Rattle.sbox.proofs.polynomial_rows.polynomial.Goals as goal
 
-pub loop-i-init : goal.loop-i-init
-loop-i-init c = search going
-
-pub polynomial_share-next-requires : goal.polynomial_share-next-requires
-unfolding spec.polynomial_row
-polynomial_share-next-requires c =
-    record { known = search rules; z_bound = omega arith; ready_steps = going_ready c.loop-i.invariant (search rules) c.loop-i-test.true }
+pub polynomial_share-requires-clause-ready : goal.polynomial_share-requires-clause-ready
+unfolding sbox.polynomial by_share.by_share
+polynomial_share-requires-clause-ready g c =
+    let terms : length (exponents g.F.Field.WIDTH) - 1 ≡ g.row.POWERS = omega (arith, c.requires.powers) in
+    ready_first _ _ (going_ready c.loop-i.invariant (rw terms at c.requires.ready) c.loop-i-test.true)
 
 pub loop-i-preserved : goal.loop-i-preserved
-loop-i-preserved c =
-    going_on c.loop-i.invariant c.loop-i-test.true c.polynomial_share-next.ensures (search rules)
+unfolding sbox.polynomial by_share.by_share
+loop-i-preserved g c =
+    let terms : length (exponents g.F.Field.WIDTH) - 1 ≡ g.row.POWERS = omega (arith, c.requires.powers) in
+    going_on c.loop-i.invariant (rw terms at c.requires.ready) c.loop-i-test.true (went_map (λ v. set c.loop-i.c c.loop-i.i v) c.polynomial_share.ensures)
 
 pub returns : goal.returns
-unfolding spec.polynomial_row
-returns c =
-    gone c.loop-i.invariant c.loop-i-test.false
+unfolding sbox.polynomial by_share.by_share
+returns g c =
+    let terms : length (exponents g.F.Field.WIDTH) - 1 ≡ g.row.POWERS = omega (arith, c.requires.powers) in
+    rw terms (gone c.loop-i.invariant c.loop-i-test.false)

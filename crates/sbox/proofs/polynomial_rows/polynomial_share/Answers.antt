@@ -1,17 +1,12 @@
--- `polynomial_share` meets its contract: the constant, the terms, and then a store.
-use native.Mathlib.Omega.{arith}
-use borrow.Author.Rules.{rules}
-use Rattle.sbox.specs.Table as table
-use Rattle.sbox.specs.TableSteps as spec
-use Rattle.steps.proofs.Parts.{ready_first, went_map}
+-- `polynomial_share` meets its contract: a loop over the powers.
+use Rattle.steps.proofs.Loop.{going_ready, going_on, gone}
 use Rattle.sbox.proofs.polynomial_rows.polynomial_share.Goals as goal
 
-pub terms-u-requires : goal.terms-u-requires
-unfolding spec.polynomial_share
-terms-u-requires c =
-    record { known = search rules; k_bound = omega arith; ready_steps = rw c.constant-c.ensures (ready_first _ _ c.requires.ready_steps) }
+pub term-u-requires-clause-ready : goal.term-u-requires-clause-ready
+term-u-requires-clause-ready g c = going_ready c.loop-r.invariant (rw c.constant-u.ensures c.requires.ready) c.loop-r-test.true
+
+pub loop-r-preserved : goal.loop-r-preserved
+loop-r-preserved g c = going_on c.loop-r.invariant (rw c.constant-u.ensures c.requires.ready) c.loop-r-test.true c.term-u.ensures
 
 pub returns : goal.returns
-unfolding spec.polynomial_share table.set_cell
-returns c =
-    rw (← c.constant-c.ensures) (went_map _ c.terms-u.ensures)
+returns g c = rw (← c.constant-u.ensures) (gone c.loop-r.invariant c.loop-r-test.false)

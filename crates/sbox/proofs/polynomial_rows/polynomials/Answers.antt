@@ -1,25 +1,27 @@
 -- `polynomials` meets its contract: a loop over the polynomials.
+use mathlib.Core.Path.{◌≡◌}
+use Prim.Native.Nat.{ℕ, ◌+◌, ◌*◌, ◌-◌}
 use native.Mathlib.Omega.{arith}
-use borrow.Author.Rules.{rules}
-use Rattle.steps.proofs.Loop.{going, going_ready, going_on, gone}
-use Rattle.sbox.proofs.TableRuns.{place_within}
+use lib.ListN.{set}
+use Rattle.steps.proofs.Loop.{going_ready, going_on, gone}
+use Rattle.steps.proofs.Parts.{ready_first, went_map}
+use Rattle.sbox.specs.TableSteps as spec
 use Rattle.sbox.proofs.polynomial_rows.polynomials.Goals as goal
 
-pub loop-j-init : goal.loop-j-init
-loop-j-init c = search going
+-- what is lent of the coefficients is as many as a polynomial has
+own : (e first : ℕ) → first + e + 1 - first ≡ e + 1
+own e first = omega arith
 
-pub polynomial-next-requires : goal.polynomial-next-requires
-polynomial-next-requires c =
-    record {
-      known = search rules;
-      s_bound = (omega arith, omega arith, omega arith, place_within _ c.loop-j-test.true (search rules));
-      ready_steps = going_ready c.loop-j.invariant (search rules) c.loop-j-test.true;
-    }
+pub polynomial-requires-clause-ready : goal.polynomial-requires-clause-ready
+unfolding spec.polynomial_row spec.coefficients_at
+polynomial-requires-clause-ready g c =
+    rw (own g.row.POWERS (c.loop-j.j * (g.row.POWERS + 1))) (ready_first _ _ (going_ready c.loop-j.invariant c.requires.ready c.loop-j-test.true))
 
 pub loop-j-preserved : goal.loop-j-preserved
-loop-j-preserved c =
-    going_on c.loop-j.invariant c.loop-j-test.true c.polynomial-next.ensures (search rules)
+unfolding spec.polynomial_row spec.coefficients_at
+loop-j-preserved g c =
+    let went = rw (own g.row.POWERS (c.loop-j.j * (g.row.POWERS + 1))) at c.polynomial.ensures in
+    going_on c.loop-j.invariant c.requires.ready c.loop-j-test.true (went_map (λ row. set c.loop-j.t (c.args.z + c.loop-j.j) row) went)
 
 pub returns : goal.returns
-returns c =
-    gone c.loop-j.invariant c.loop-j-test.false
+returns g c = gone c.loop-j.invariant c.loop-j-test.false

@@ -1,21 +1,15 @@
--- `total_share` meets its contract: the products, and then the last p.
-use native.Mathlib.Omega.{arith}
-use borrow.Author.Rules.{rules}
-use Rattle.steps.proofs.Machine.{then_runs}
-use Rattle.steps.proofs.Parts.{ready_first, ready_next}
-use Rattle.sbox.specs.Table as table
-use Rattle.sbox.specs.TableSteps as spec
+-- `total_share` meets its contract: a loop over the sharings that are added.
+use Rattle.steps.proofs.Loop.{going_ready, going_on, gone}
+use Rattle.sbox.proofs.TableRuns.{add_runs, add_room}
 use Rattle.sbox.proofs.product_rows.total_share.Goals as goal
 
-pub add_rows-u-requires : goal.add_rows-u-requires
-unfolding spec.total_share table.table_cell
-add_rows-u-requires c = record { i_bound = omega arith; ready_steps = ready_first _ _ c.requires.ready_steps }
+pub record-requires : goal.record-requires
+record-requires g c =
+    let room = add_room _ _ _ _ (going_ready c.loop-j.invariant c.requires.ready c.loop-j-test.true) in
+    (room.fit, room.places)
 
-pub add_row-requires : goal.add_row-requires
-unfolding spec.total_share table.table_cell
-add_row-requires c = record { i_bound = omega arith; ready_steps = ready_next _ c.requires.ready_steps c.add_rows-u.ensures (search rules) }
+pub loop-j-preserved : goal.loop-j-preserved
+loop-j-preserved g c = going_on c.loop-j.invariant c.requires.ready c.loop-j-test.true (add_runs _ _ _ _ _ c.record.ensures)
 
 pub returns : goal.returns
-unfolding spec.total_share table.table_cell
-returns c =
-    record { runs = search then_runs }
+returns g c = gone c.loop-j.invariant c.loop-j-test.false

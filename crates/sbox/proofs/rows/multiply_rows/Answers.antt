@@ -1,24 +1,13 @@
--- `multiply_rows` meets its contract: the product of two rows, put into a third.
-use borrow.Author.Rules.{rules}
-use Rattle.decomposition.proofs.Sizes.{known_narrow}
-use Rattle.steps.proofs.Parts.{ready_first}
-use Rattle.sbox.specs.TableSteps.{multiply_rows}
-use Rattle.sbox.proofs.TableRuns.{multiply_runs, row_part, row_long}
+-- `multiply_rows` meets its contract: the product is that of the definition.
+use lib.ListN.{set}
+use Rattle.steps.proofs.Parts.{ready_first, went_map}
+use Rattle.sbox.specs.TableSteps as spec
 use Rattle.sbox.proofs.rows.multiply_rows.Goals as goal
 
-pub product-m-requires : goal.product-m-requires
-unfolding multiply_rows
-product-m-requires c =
-    let x = row_part c.args.t.now c.args.x in
-    let y = row_part c.args.t.now c.args.y in
-    record {
-      narrow = search (rules, known_narrow);
-      s_bound = (search rules, search (rules, row_long), search (rules, row_long));
-      ready = rw (x, y) (ready_first _ _ c.requires.ready);
-    }
+pub product-requires : goal.product-requires
+unfolding spec.multiply_rows
+product-requires g c = ready_first _ _ c.requires.ready
 
 pub returns : goal.returns
-returns c =
-    let x = row_part c.args.t.now c.args.x in
-    let y = row_part c.args.t.now c.args.y in
-    record { runs = multiply_runs _ _ _ _ _ _ _ _ _ _ x y c.product-m.ensures.runs (search rules) }
+unfolding spec.multiply_rows
+returns g c = went_map (λ row. set c.args.t.now c.args.z row) c.product.ensures

@@ -1,12 +1,9 @@
--- `rounds::by_table` meets its contract. The invariant: y is the block before turn r.
+-- `rounds::by_table` meets its contract. The invariant: y is the block after so many turns.
 use mathlib.Core.Path.{◌≡◌}
-use Prim.Native.Nat.{◌-◌, ◌≤◌}
+use Prim.Native.Nat.{◌+◌}
 use Rattle.steps.specs.Iterate.{iterate}
 use Rattle.unshared.specs.RoundKeys.{turn}
 use Rattle.unshared.proofs.rounds.by_table.Given as goal
 
-abbrev pub invariant-loop-r : goal.invariant-loop-r
-invariant-loop-r l = (1 ≤ l.r) × (l.r ≤ 32) × (l.y ≡ iterate 1 l.r (turn l.table l.keys) l.initial.y)
-
-abbrev pub decreases-loop-r : goal.decreases-loop-r
-decreases-loop-r l = 32 - l.r
+abbrev pub invariant-loop-key : goal.invariant-loop-key
+invariant-loop-key l = l.y ≡ iterate 1 (1 + l.key-index) (turn l.table l.keys) l.initial.y

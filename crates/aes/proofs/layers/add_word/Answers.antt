@@ -1,0 +1,17 @@
+-- `layers::add_word` meets its contract: it is made place by place, and recorded.
+use native.Mathlib.Omega.{arith}
+use Rattle.rijndael.specs.Strings.{place_of, make_shares}
+use Rattle.rijndael.specs.Rijndael.{word_byte}
+use Rattle.aes.proofs.Bounds.{few}
+use Rattle.aes.proofs.layers.add_word.Goals as goal
+
+pub make_shares-requires : goal.make_shares-requires
+make_shares-requires g c = (omega arith, λ p h. (c.requires.i_bound.0, c.requires.i_bound.1, omega (arith, few 36 c.args.s.few, h)))
+
+pub recorded-requires : goal.recorded-requires
+unfolding make_shares
+recorded-requires g c = (omega arith, rw (c.make_shares.ensures (place_of 176 4 4 (word_byte c.args.i) c.args.w.now c.args.temp.now) (λ p v h r. r)) c.requires.ready)
+
+pub returns : goal.returns
+unfolding make_shares
+returns g c = rw (c.make_shares.ensures (place_of 176 4 4 (word_byte c.args.i) c.args.w.now c.args.temp.now) (λ p v h r. r)) at c.recorded.ensures

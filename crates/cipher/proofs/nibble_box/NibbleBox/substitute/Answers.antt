@@ -1,0 +1,28 @@
+-- `NibbleBox::substitute` meets its contract: the column, its S-box, and the column put back.
+use mathlib.Core.Path.{refl}
+use Rattle.decomposition.specs.Layout.{layout, sized}
+use Rattle.decomposition.proofs.Sizes.{same_pair, layout_width, layout_outputs}
+use Rattle.cipher.specs.Rounds.{sbox_of}
+use Rattle.cipher.proofs.Nibbles.{nibble_prepared, nibble_substituted, nibble_given}
+use Rattle.steps.specs.ShareBytes.{sharing}
+use Rattle.cipher.proofs.nibble_box.NibbleBox.substitute.Goals as goal
+
+pub run-y-requires : goal.run-y-requires
+unfolding layout sized
+run-y-requires g c =
+    rw (c.args.self.now.four, layout_width 4 4, layout_outputs 4 4)
+    record {
+      of_pair = record { pair = same_pair 4 refl; layout_is = refl };
+      ready = (nibble_prepared (sbox_of c.args.self.now c.args.s.count) c.args.k (sharing c.args.w c.args.s.count c.args.l.now) _
+          c.column-x.ensures c.requires.prepared).ready;
+    }
+
+pub replace_column-requires-clause-v_sharing : goal.replace_column-requires-clause-v_sharing
+replace_column-requires-clause-v_sharing g c =
+    nibble_given c.args.self.now.record.coefficients.now c.args.self.now.small c.args.w c.args.k c.args.s.count c.args.l.now c.requires.in_bounds.0 c.args.s.few
+    c.column-x.ensures c.requires.prepared.nibbles (rw (c.args.self.now.four, layout_width 4 4, layout_outputs 4 4) at c.run-y.ensures)
+
+pub returns-clause-went : goal.returns-clause-went
+returns-clause-went g c =
+    nibble_substituted (sbox_of c.args.self.now c.args.s.count) c.args.k (sharing c.args.w c.args.s.count c.args.l.now) _ c.column-x.ensures _ _
+    (rw (c.args.self.now.four, layout_width 4 4, layout_outputs 4 4) at c.run-y.ensures) c.replace_column.ensures.l_after

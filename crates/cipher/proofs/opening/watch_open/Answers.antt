@@ -1,0 +1,20 @@
+-- `opening::watch_open` meets its contract: the records are tested, and then a run is watched.
+use mathlib.Core.Path.{sym}
+use Rattle.refusal.proofs.Outcome.{refuses}
+use Rattle.refusal.proofs.Exits.{reports}
+use Rattle.steps.specs.Taken.{handed}
+use Rattle.steps.specs.Call as call
+use Rattle.cipher.specs.Ciphering.{call_of, call_tests}
+use Rattle.cipher.specs.OpenOperations.{watch_open_outcome, watch_open_output}
+use Rattle.cipher.proofs.opening.watch_open.Goals as goal
+
+pub returns-in_err-new : goal.returns-in_err-new
+unfolding watch_open_outcome call_of call_tests call.watch_outcome
+returns-in_err-new c =
+    refuses (reports handed _ _ c.from_residual.ensures.1) (rw (sym c.in_err-new.ensures.outcome))
+
+pub returns : goal.returns
+unfolding watch_open_outcome watch_open_output
+returns c =
+    let same = c.in_ok-new.ensures.coefficients in
+    rw (sym c.in_ok-new.ensures.outcome, ← same.0, ← same.1) c.watch.ensures

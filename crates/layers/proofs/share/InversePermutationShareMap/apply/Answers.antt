@@ -1,0 +1,11 @@
+-- `apply` meets its contract.
+use mathlib.Core.Path.{ap, ◌∙◌}
+use native.Mathlib.Omega.{arith}
+use borrow.Author.Rules.{rules}
+use Rattle.present.specs.Decrypt.{unpermute}
+use Rattle.layers.proofs.State.{from_written}
+use Rattle.layers.proofs.share.InversePermutationShareMap.apply.Goals as goal
+
+pub returns : goal.returns
+returns c =
+    from_written 8 _ _ c.put_number.ensures (omega arith) (search rules) ∙ c.unpermute.ensures ∙ ap unpermute c.number-x.ensures.0

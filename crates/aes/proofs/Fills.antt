@@ -1,18 +1,17 @@
 -- Strings that are filled place by place, and parts that are copied into them.
 use mathlib.Core.Path.{◌≡◌, sym, ap, ◌∙◌}
 use mathlib.Core.List.{List, [], ◌++◌}
-use Prim.Native.Nat.{ℕ, zero, suc, ◌+◌, ◌≤◌, ◌<◌}
-use native.Mathlib.Decide.{dec_lt}
+use Prim.Native.Nat.{ℕ, zero, suc, ◌+◌, ◌-◌, ◌≤◌, ◌<◌}
 use native.Mathlib.Nat.{add-zero}
 use native.Mathlib.Omega.{arith}
-use lib.ListN.{length, get_or, set, take, drop, replicate, length-replicate, length-drop, get_or-eq_default, take-append-drop}
+use lib.ListN.{length, get_or, set, take, drop, replicate, length-append, length-replicate, length-drop, take-append-drop}
 use lib.Seq.{ext_get_or, paste, paste-suc, get_or-drop, get_or-take, length-take-le}
 use Rattle.std.proofs.lemmas.List.{append-nil}
 use Rattle.std.proofs.lemmas.Slice.{put_mid-paste}
 use borrow.Rule.Slice.PartMut.{put_mid}
-use Rattle.steps.specs.Fill.{tabulate, fill}
-use Rattle.steps.proofs.Fill.{length_fill, length_tabulate, tabulate_same, tabulate_get_or, get_or_fill, get_or_fill_past, get_d_tabulate}
-use Rattle.steps.proofs.Sharing.{share_zeros}
+use Rattle.steps.specs.Fill.{tabulate, padded}
+use Rattle.steps.proofs.Fill.{length_tabulate, tabulate_same, tabulate_get_or, get_d_tabulate}
+use Rattle.steps.proofs.Sharing.{share_padded}
 use Rattle.rijndael.specs.Strings.{byte_at, put_places, loaded}
 
 -- ---- parts that are copied
@@ -38,24 +37,13 @@ put_copied a b at n from {ys} {j} {k} la lb ej ek e =
 
 -- ---- a string that is loaded
 
--- what is copied to the start of zeros
-pub loaded_copy : (a : List ℕ) → length a ≤ 144 → a ++ drop (length a) (replicate 144 0) ≡ loaded 16 a
-unfolding loaded fill
-loaded_copy a h =
-    let n : ℕ = length a in
-    let zeros : List ℕ = replicate 144 0 in
-    let all : length zeros ≡ 144 = length-replicate {A = ℕ} 144 0 in
-    let same : length (fill n (byte_at a) zeros) ≡ 144 = length_fill n (byte_at a) zeros (omega (arith, all)) ∙ all in
-    let left : a ++ drop n zeros ≡ fill n (byte_at a) zeros = ap (λ (x : List ℕ). x ++ drop n zeros) (sym (tabulate_get_or a 0)) in
-    left ∙ ext_get_or 0 (fill n (byte_at a) zeros) (tabulate 144 (byte_at a))
-    (same ∙ sym (length_tabulate 144 (byte_at a)))
-    (λ p l. go p (dec_lt p n) ∙ sym (get_d_tabulate 144 (byte_at a) p 0 (omega (arith, l, same))))
-  where
-    go : (p : ℕ) → Dec (p < length a) → get_or (fill (length a) (byte_at a) (replicate 144 0)) p 0 ≡ byte_at a p
-    go p (yes k) = get_or_fill (length a) (byte_at a) (replicate 144 0) p 0 k
-    go p (no k) =
-        get_or_fill_past (length a) (byte_at a) (replicate 144 0) p 0 (omega arith)
-        ∙ share_zeros 144 p ∙ sym (get_or-eq_default a 0 {n = p} (omega arith))
+-- bytes in an array that has room for more
+pub loaded_padded : (a : List ℕ) → length a ≤ 144 → padded 144 a ≡ loaded 16 a
+unfolding loaded
+loaded_padded a h =
+    let places : length (padded 144 a) ≡ 144 = omega (arith, length-append a (replicate (144 - length a) 0), length-replicate {A = ℕ} (144 - length a) 0) in
+    ext_get_or 0 (padded 144 a) (tabulate 144 (byte_at a)) (places ∙ sym (length_tabulate 144 (byte_at a)))
+    (λ p l. share_padded a (144 - length a) p ∙ sym (get_d_tabulate 144 (byte_at a) p 0 (omega (arith, places))))
 
 -- ---- places that are copied out
 

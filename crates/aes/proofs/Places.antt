@@ -7,6 +7,7 @@ use native.Mathlib.Omega.{arith}
 use lib.Bits.{bit_xor}
 use lib.Dec.{lit<}
 use lib.ListN.{get_or}
+use Rattle.std.specs.Int.{w8, rotate_left}
 use Rattle.xor.specs.Xor.{◌⊕◌}
 use Rattle.field.specs.Mul.{double, mul}
 use Rattle.field.proofs.Bilinear.{⊕-mul}
@@ -19,11 +20,11 @@ use Rattle.rijndael.specs.Rijndael.{bit_of, linear_bit, sum_bits, linear_part, s
 
 -- the linear part by rotations, by one computed test
 pub linear_by_rotations : (v : ℕ) → v < 256
-    → bit_xor (bit_xor (bit_xor (bit_xor v (v % 128 * 2 + v / 128)) (v % 64 * 4 + v / 64)) (v % 32 * 8 + v / 32)) (v % 16 * 16 + v / 16) ≡ linear_part v
+    → bit_xor (bit_xor (bit_xor (bit_xor v (rotate_left w8 v 1)) (rotate_left w8 v 2)) (rotate_left w8 v 3)) (rotate_left w8 v 4) ≡ linear_part v
 unfolding linear_part sum_bits linear_bit bit_of ◌⊕◌
 linear_by_rotations =
     same_below 256
-    (λ v. bit_xor (bit_xor (bit_xor (bit_xor v (v % 128 * 2 + v / 128)) (v % 64 * 4 + v / 64)) (v % 32 * 8 + v / 32)) (v % 16 * 16 + v / 16))
+    (λ v. bit_xor (bit_xor (bit_xor (bit_xor v (rotate_left w8 v 1)) (rotate_left w8 v 2)) (rotate_left w8 v 3)) (rotate_left w8 v 4))
     linear_part tt
 
 -- ---- where the bytes come from, by computed tests

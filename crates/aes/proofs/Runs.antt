@@ -17,7 +17,6 @@ use Rattle.rijndael.specs.Strings.{byte_at, note_bytes, record_string, make_shar
 use Rattle.rijndael.specs.Rijndael.{linear_part, affine_constant, rcon}
 use Rattle.rijndael.specs.Masked.{masked_rcon, masked_sub_byte}
 use Rattle.aes.specs.Sbox.{affine_share}
-use Rattle.aes.specs.Rounds.{affine_turn}
 
 -- ---- recording
 
@@ -70,14 +69,14 @@ module _ {s : State} where
 
 -- ---- the affine map of a share
 
-module _ (i : ℕ) (a c : List ℕ) {s : State} where
-  pub affine_room : Ready (affine_turn a i c) s → (s.counts.steps + 1 < 2 ^ 32) × (length s.watch ≡ length s.values)
-  unfolding affine_share note ◌>>=◌ exec
+module _ (a : List ℕ) (i : ℕ) {s : State} where
+  pub affine_room : Ready (affine_share a i) s → (s.counts.steps + 1 < 2 ^ 32) × (length s.watch ≡ length s.values)
+  unfolding affine_share note exec
   affine_room y = (y.steps_fit, y.places)
 
   pub affine_went : (v : ℕ) {s' : State} → v ≡ linear_part (share a i) ⊕ constant i affine_constant → s' ≡ recorded v s
-      → Went (affine_turn a i c) s (set c i v) s'
-  unfolding affine_share note ◌>>=◌ exec
+      → Went (affine_share a i) s v s'
+  unfolding affine_share note exec
   affine_went v ev e = record { runs = rw (e, ev) refl }
 
 -- ---- Rcon

@@ -1,7 +1,7 @@
 -- TO COUNT TAPES IS TO COUNT CALLS. The tapes that `choices` counts are those of the choices, one to one, and each
 -- with a key and a block settles one call (crates/steps/proofs/Settled.antt). Watch AES block accepts it, with any list of up to 64 step numbers, and
 -- writes the values that are counted: those of the experiment on this tape.
-use mathlib.Core.Path.{◌≡◌, sym, ap, ◌∙◌}
+use mathlib.Core.Path.{◌≡◌, refl}
 use mathlib.Core.List.{List, [], ◌∷◌}
 use Prim.Native.Nat.{ℕ, ◌≤◌, ◌<◌}
 use lib.ListN.{length, get_or}
@@ -10,15 +10,17 @@ use Rattle.steps.specs.Program.{trace}
 use Rattle.steps.specs.Watch.{watched}
 use Rattle.steps.specs.Choices.{Fits}
 use Rattle.steps.specs.Tape.{elements}
-use Rattle.steps.specs.Settled.{Choice, choice_bits, masks_then, Chosen, Settles, Settled}
+use Rattle.steps.specs.Settled.{Choice, choice_bits, masks_then, Chosen, Settles}
+use Rattle.steps.specs.Ciphering.{figures_for}
 use Rattle.steps.proofs.Chosen.{choice_tape, tape_choice}
-use Rattle.rijndael.specs.Experiment.{Plain}
+use Rattle.steps.proofs.CipheringChoices as choices
+use Rattle.rijndael.specs.Experiment.{Plain, encrypt_shares}
+use Rattle.rijndael.specs.Experiment as rijndael
+use Rattle.aes.specs.Sbox.{sbox}
 use Rattle.aes.specs.Figures.{figures, block_steps}
 use Rattle.aes.specs.Experiment.{experiment, block_inputs}
-use Rattle.aes.specs.Operations.{watch_outcome, watch_output}
-use Rattle.aes.proofs.Calls.{block_full}
-use Rattle.aes.proofs.Watched.{watch_shows}
-use Rattle.aes.proofs.Settles.{watch_accepted}
+use Rattle.aes.specs.Operations.{call_program, enciphering, watch_outcome, watch_output}
+use Rattle.aes.proofs.Calls.{block_full, block_good}
 
 -- ONE TO ONE. The random elements fill their bytes, so a choice has an element for each draw and fits the draws,
 pub choice_taped : (s : ℕ) (masks : List (List ℕ)) (random : List ℕ) → Choice (block_inputs s) masks random
@@ -34,10 +36,6 @@ pub tape_watched : (s : ℕ) → 0 < s → s ≤ 9 → (x : Plain) {tape key blo
     → (list : List ℕ) → length list ≤ 64 → ((k : ℕ) → get_or list k 0 < block_steps s)
     → (watch_outcome s key block c.random list (length list) ≡ done (figures s))
     × (watch_output s key block c.random list ≡ watched list (trace (experiment s x) tape))
-tape_watched s some nine x {tape} {key} {block} c h list few below =
-    let settled : Settled (block_inputs s) (key ∷ block ∷ []) c.random =
-    record { values = x.key ∷ x.block ∷ []; masks = c.masks; choice = c.choice; settles = h } in
-    let shows = watch_shows s some nine x c.random list c.choice.masks_are h in (
-      watch_accepted s some nine key block c.random settled list few below,
-      shows ∙ ap (λ (t : List ℕ). watched list (trace (experiment s x) t)) (sym c.tape_is),
-    )
+unfolding watch_outcome watch_output figures figures_for experiment rijndael.experiment call_program
+tape_watched s some nine x =
+    choices.tape_watched (enciphering s) (encrypt_shares (sbox s) s) (λ k x l m el hl hk em hm hx. refl) (block_good s) refl some nine x.key x.block

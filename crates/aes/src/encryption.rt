@@ -1,21 +1,52 @@
-// The whole masked block.
-ghost use Rattle.std.specs.Prelude.{◌≤◌, length};
-ghost use Rattle.steps.specs.Machine.{Ready, Went, After};
-ghost use Rattle.aes.specs.Operations.{call_program};
+// Masked AES-128 as a masked operation of a key and a block.
+ghost use Rattle.std.proofs.Common.{rules};
+ghost use Rattle.aes.specs.Operations.{aes_128};
 
+use crate::figures::block_counts;
 use crate::key_expansion::expand;
 use crate::parts::{BlockShares, load};
 use crate::rounds::cipher;
 use steps::ShareCount;
+use steps::calling::Ciphering;
 use steps::machine::Machine;
 
-// The masked block of the shares of a key and of a block, 16 bytes each.
-pub fn encrypt<M: Machine>(machine: &mut M, s: ShareCount, key: &[u8], block: &[u8]) -> BlockShares
-    requires lengths { (length key.now ≤ 144) × (length block.now ≤ 144) }
-    requires ready { Ready (call_program s.count key.now block.now) (M.state machine.old) }
-    ensures went { Went (call_program s.count key.now block.now) (M.state machine.old) result (M.state machine.new) }
-    ensures after { After (M.state machine.old) (M.state machine.new) }
-{
-    let schedule = expand(machine, s, &load(key));
-    cipher(machine, s, &schedule, &load(block))
+// AES-128, masked. It has no records.
+#[derive(Clone, Copy)]
+pub struct Aes128;
+
+impl Ciphering<8, 144> for Aes128 {
+    ghost KEY = { 16 };
+
+    ghost BLOCK = { 16 };
+
+    ghost cipher = { λ _. aes_128 };
+
+    fn key_bytes(&self) -> usize {
+        16
+    }
+
+    fn block_bytes(&self) -> usize {
+        16
+    }
+
+    fn draw_count(&self, s: ShareCount) -> usize {
+        block_counts(s).random
+    }
+
+    fn step_count(&self, s: ShareCount) -> u32 {
+        block_counts(s).steps
+    }
+
+    fn run<M: Machine>(
+        &self,
+        machine: &mut M,
+        s: ShareCount,
+        key: &[u8],
+        block: &[u8],
+    ) -> BlockShares {
+        let schedule = expand(machine, s, &load(key));
+        cipher(machine, s, &schedule, &load(block))
+    }
+
+    ghost sizes = { Prim.search rules };
 }

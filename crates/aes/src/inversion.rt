@@ -3,7 +3,7 @@ ghost use Rattle.std.specs.Prelude.{◌≡◌, ◌<◌};
 ghost use Rattle.steps.specs.Machine.{Ready, Went};
 ghost use Rattle.rijndael.specs.Rijndael.{linear_part};
 ghost use Rattle.aes.specs.Sbox as spec;
-ghost use Rattle.aes.specs.Rounds.{powers_in, affine_turn};
+ghost use Rattle.aes.specs.Rounds.{powers_in};
 
 use field::Gf256;
 use product::{Sharing, product, square};
@@ -64,25 +64,21 @@ fn inverted<M: Machine>(machine: &mut M, s: ShareCount, x: &Sharing) -> Sharing
 }
 
 // The linear part of the affine map: v and v rotated left by 1 to 4.
-#[tactic(auto, using(crate::proofs::Places::linear_by_rotations))]
 fn linear_part(v: u8) -> u8
     ensures { result ≡ linear_part v }
 {
-    v ^ (v % 128 * 2 + v / 128)
-        ^ (v % 64 * 4 + v / 64)
-        ^ (v % 32 * 8 + v / 32)
-        ^ (v % 16 * 16 + v / 16)
+    v ^ v.rotate_left(1) ^ v.rotate_left(2) ^ v.rotate_left(3) ^ v.rotate_left(4)
 }
 
 // The affine map of share i: the constant 0x63 goes to share 0 only.
-fn affine_share<M: Machine>(machine: &mut M, i: usize, a: &Sharing, c: &mut Sharing)
+fn affine_share<M: Machine>(machine: &mut M, a: &Sharing, i: usize) -> u8
     requires i_bound { i < 9 }
-    requires ready { Ready (affine_turn a.now i c.old) (M.state machine.old) }
-    ensures { Went (affine_turn a.now i c.old) (M.state machine.old) c.new (M.state machine.new) }
+    requires ready { Ready (spec.affine_share a.now i) (M.state machine.old) }
+    ensures { Went (spec.affine_share a.now i) (M.state machine.old) result (M.state machine.new) }
 {
     let v = linear_part(a[i]) ^ product::constant(i, 0x63);
     machine.record(v);
-    c[i] = v;
+    v
 }
 
 // The affine map of each share.
@@ -90,11 +86,7 @@ fn affine<M: Machine>(machine: &mut M, s: ShareCount, a: &Sharing) -> Sharing
     requires { Ready (spec.affine s.count a.now) (M.state machine.old) }
     ensures { Went (spec.affine s.count a.now) (M.state machine.old) result (M.state machine.new) }
 {
-    let mut c = [0u8; 9];
-    for i in 0..s.count {
-        affine_share(machine, i, a, &mut c);
-    }
-    c
+    product::by_share(machine, s, |machine, i| affine_share(machine, a, i))
 }
 
 // The masked S-box of the sharing x, of s shares.

@@ -7,14 +7,14 @@ ghost use Rattle.rijndael.specs.Masked.{masked_rcon, masked_new_word, masked_nex
 ghost use Rattle.aes.specs.Sbox as spec;
 ghost use Rattle.aes.specs.Rounds.{expanding_in};
 
-use crate::layers::{add_word, rot_word};
+use crate::layers::{KeyNumber, add_word, rot_word};
 use crate::parts::{BlockShares, ScheduleShares, WordShares, put_shares};
 use crate::substitution::sub_bytes;
 use field::{Field, Gf256};
 use steps::ShareCount;
 use steps::machine::Machine;
 
-// The element 2 to the power e: the first byte of a round constant.
+// The element 2 to the power e, by doubling: the first byte of a round constant.
 fn power_of_two(e: u8) -> u8
     ensures { result ≡ pow 8 2 e }
 {
@@ -26,12 +26,11 @@ fn power_of_two(e: u8) -> u8
 }
 
 // Rcon of round key r is added to share 0.
-fn add_rcon<M: Machine>(machine: &mut M, r: usize, t: &mut WordShares)
-    requires r_bound { (0 < r) × (r < 11) }
-    requires ready { Ready (masked_rcon r t.old) (M.state machine.old) }
-    ensures { Went (masked_rcon r t.old) (M.state machine.old) t.new (M.state machine.new) }
+fn add_rcon<M: Machine>(machine: &mut M, r: KeyNumber, t: &mut WordShares)
+    requires { Ready (masked_rcon r.number t.old) (M.state machine.old) }
+    ensures { Went (masked_rcon r.number t.old) (M.state machine.old) t.new (M.state machine.new) }
 {
-    let e = (r - 1) as u8;
+    let e = (r.number - 1) as u8;
     let v = t[0] ^ power_of_two(e);
     machine.record(v);
     t[0] = v;
@@ -58,24 +57,22 @@ fn new_word<M: Machine>(
 fn new_words<M: Machine>(
     machine: &mut M,
     s: ShareCount,
-    r: usize,
+    r: KeyNumber,
     w: &mut ScheduleShares,
     temp: &mut WordShares,
 )
-    requires r_bound { (0 < r) × (r < 11) }
-    requires ready { Ready (for 0 4 (λ t. masked_new_word s.count (4 * r + t)) (expanding_in w.old temp.old)) (M.state machine.old) }
-    ensures { Went (for 0 4 (λ t. masked_new_word s.count (4 * r + t)) (expanding_in w.old temp.old)) (M.state machine.old) (expanding_in w.new temp.new) (M.state machine.new) }
+    requires { Ready (for 0 4 (λ t. masked_new_word s.count (4 * r.number + t)) (expanding_in w.old temp.old)) (M.state machine.old) }
+    ensures { Went (for 0 4 (λ t. masked_new_word s.count (4 * r.number + t)) (expanding_in w.old temp.old)) (M.state machine.old) (expanding_in w.new temp.new) (M.state machine.new) }
 {
     for k in 0..4 {
-        new_word(machine, s, 4 * r + k, w, temp);
+        new_word(machine, s, 4 * r.number + k, w, temp);
     }
 }
 
 // Round key r.
-fn next_key<M: Machine>(machine: &mut M, s: ShareCount, r: usize, w: &mut ScheduleShares)
-    requires r_bound { (0 < r) × (r < 11) }
-    requires ready { Ready (masked_next_key (spec.sbox s.count) s.count r w.old) (M.state machine.old) }
-    ensures { Went (masked_next_key (spec.sbox s.count) s.count r w.old) (M.state machine.old) w.new (M.state machine.new) }
+fn next_key<M: Machine>(machine: &mut M, s: ShareCount, r: KeyNumber, w: &mut ScheduleShares)
+    requires { Ready (masked_next_key (spec.sbox s.count) s.count r.number w.old) (M.state machine.old) }
+    ensures { Went (masked_next_key (spec.sbox s.count) s.count r.number w.old) (M.state machine.old) w.new (M.state machine.new) }
 {
     let mut temp = rot_word(machine, s, r, w);
     sub_bytes(machine, s, &mut temp);
@@ -89,7 +86,7 @@ fn next_keys<M: Machine>(machine: &mut M, s: ShareCount, w: &mut ScheduleShares)
     ensures { Went (for 1 11 (masked_next_key (spec.sbox s.count) s.count) w.old) (M.state machine.old) w.new (M.state machine.new) }
 {
     for r in 1..11 {
-        next_key(machine, s, r, w);
+        next_key(machine, s, KeyNumber { number: r }, w);
     }
 }
 

@@ -1,4 +1,5 @@
-// The layers of the cipher, on strings of bytes in shares: each is made place by place, and recorded.
+// The layers of the cipher, on strings of bytes in shares: each is made place by place, and recorded. What a closure asks of the numbers that it captures
+// it has to say itself, and so do the functions here that make closures; a place in a string, a word and a round of the cipher are numbers of loops.
 ghost use Rattle.std.specs.Prelude.{◌≡◌, [], ◌*◌, ◌≤◌, ◌<◌};
 ghost use Rattle.xor.specs.Xor.{◌⊕◌};
 ghost use Rattle.field.specs.Mul.{mul};
@@ -12,6 +13,13 @@ use crate::recording::recorded;
 use field::{Field, Gf256};
 use steps::ShareCount;
 use steps::machine::Machine;
+
+// The number of a round key that the key expansion makes; round key 0 is the key itself.
+#[derive(Clone, Copy)]
+pub struct KeyNumber {
+    pub number: usize,
+    pub ghost made: { (0 < number) × (number < 11) },
+}
 
 // ShiftRows.
 #[tactic(auto, using(crate::proofs::Places::shift_place))]
@@ -80,13 +88,13 @@ pub fn add_round_key<M: Machine>(
 pub fn rot_word<M: Machine>(
     machine: &mut M,
     s: ShareCount,
-    r: usize,
+    r: KeyNumber,
     w: &ScheduleShares,
 ) -> WordShares
-    requires r_bound { (0 < r) × (r < 11) }
-    requires ready { Ready (masked_rot_word s.count r w.now) (M.state machine.old) }
-    ensures { Went (masked_rot_word s.count r w.now) (M.state machine.old) result (M.state machine.new) }
+    requires { Ready (masked_rot_word s.count r.number w.now) (M.state machine.old) }
+    ensures { Went (masked_rot_word s.count r.number w.now) (M.state machine.old) result (M.state machine.new) }
 {
+    let r = r.number;
     let rotated = |p: usize|
         requires { (0 < r) × (r < 11) × (p < 36) }
         ensures { result ≡ place_of 176 0 4 (rot_byte r) w.entry.now [] p }

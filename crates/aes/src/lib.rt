@@ -1,8 +1,7 @@
 // Masked AES-128. The operations AES block and Watch AES block are `enciphering::block` and `watching::watch_block`; both take their steps in
-// `encryption::encrypt`, whose parts are the modules `key_expansion`, `rounds`, `layers`, `substitution`, `inversion` and `recording`.
+// `run` of `encryption`, whose parts are the modules `key_expansion`, `rounds`, `layers`, `substitution`, `inversion` and `recording`.
 #![tactic(auto)]
 
-mod arguments;
 pub mod enciphering;
 mod encryption;
 pub mod figures;

@@ -11,7 +11,7 @@ use crate::substitution::sub_bytes;
 use steps::ShareCount;
 use steps::machine::Machine;
 
-// Round r, 1 to 9, of the state.
+// A round of the state, 1 to 9 in the cipher: of its number only that a round key has it is asked.
 fn round<M: Machine>(
     machine: &mut M,
     s: ShareCount,

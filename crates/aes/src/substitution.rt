@@ -9,7 +9,7 @@ use crate::parts::{put_shares, take_byte};
 use steps::ShareCount;
 use steps::machine::Machine;
 
-// The S-box on byte j of a string of N / 9 bytes.
+// The S-box on byte j of a string of N / 9 bytes; j is the number of a loop, and its bound that of the string.
 fn sub_byte<const N: usize, M: Machine>(machine: &mut M, s: ShareCount, j: usize, a: &mut [u8; N])
     requires j_bound { j < N / 9 }
     requires ready { Ready (masked_sub_byte (spec.sbox s.count) (N / 9) s.count j a.old) (M.state machine.old) }

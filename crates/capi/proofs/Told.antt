@@ -19,7 +19,8 @@ use Rattle.decomposition.specs.Fit.{FitCall, fit_lengths, fit_outcome, all_tests
 use Rattle.decomposition.specs.Layout.{head, known, layout, paired, record_size}
 use Rattle.decomposition.specs.Solution.{solvable}
 use Rattle.sbox.specs.Operations as sbox
-use Rattle.cipher.specs.Ciphering as ciphering
+use Rattle.steps.specs.Ciphering as ciphering
+use Rattle.cipher.specs.Ciphering as present
 use Rattle.cipher.specs.Operations as cipher
 use Rattle.cipher.specs.OpenOperations as opening
 use Rattle.present.specs.Present.{table, Size}
@@ -117,19 +118,19 @@ unfolding sbox.watch_outcome sbox.sbox_call
 sbox_watch_told r s shares random list values =
     watch_told (sbox.sbox_call r s shares random) list values (sbox_tests_told r s shares random (list_fits (length list) values))
 
-record_told : (t r : List ℕ) → Told (ciphering.record_tests t r)
-unfolding ciphering.record_tests
+record_told : (t r : List ℕ) → Told (present.record_tests t r)
+unfolding present.record_tests
 record_told t r =
-    told_then (read_outcome r) (test (eqb (width_of r) 4) 1 0 (test (ciphering.computes_table t r) 6 0 (done []))) (read_told r)
+    told_then (read_outcome r) (test (eqb (width_of r) 4) 1 0 (test (present.computes_table t r) 6 0 (done []))) (read_told r)
     (told_test (eqb (width_of r) 4) 1 0 _ (omega arith)
-    (told_test (ciphering.computes_table t r) 6 0 (done []) (omega arith) tt))
+    (told_test (present.computes_table t r) 6 0 (done []) (omega arith) tt))
 
 tests_told : (c : ciphering.Ciphering) → Told c.records → (key block random : List ℕ) (fits : Bool) → Told (ciphering.call_tests c key block random fits)
 unfolding ciphering.call_tests ciphering.argument_tests
 tests_told c t key block random fits =
-    told_then c.records (ciphering.argument_tests c.key_bytes c.draws c.shares key block random fits) t
+    told_then c.records (ciphering.argument_tests c key block random fits) t
     (told_test (one_to 9 c.shares) 7 0 _ (omega arith)
-    (told_test (ciphering.call_lengths c.key_bytes c.draws c.shares (length key) (length block) (length random) fits) 2 0 (done []) (omega arith) tt))
+    (told_test (ciphering.call_lengths c (length key) (length block) (length random) fits) 2 0 (done []) (omega arith) tt))
 
 pub block_told : (r : List ℕ) (s : ℕ) (key block random : List ℕ) (out : ℕ) → Told (cipher.block_outcome r s key block random out)
 unfolding cipher.block_outcome ciphering.call_of
@@ -144,7 +145,7 @@ block_watch_told r s key block random list values =
 
 both_told : (r q : List ℕ) → Told (opening.both_tests r q)
 unfolding opening.both_tests
-both_told r q = told_then (ciphering.record_tests table r) (ciphering.record_tests inverse_table q) (record_told table r) (record_told inverse_table q)
+both_told r q = told_then (present.record_tests table r) (present.record_tests inverse_table q) (record_told table r) (record_told inverse_table q)
 
 pub open_told : (r q : List ℕ) (s : ℕ) (key block random : List ℕ) (out : ℕ) → Told (opening.open_outcome r q s key block random out)
 unfolding opening.open_outcome ciphering.call_of
@@ -162,23 +163,15 @@ pub unshared_told : (z : Size) (key block out : ℕ) → Told (unshared_outcome 
 unfolding unshared_outcome
 unshared_told z key block out = told_test (unshared_lengths z key block out) 2 0 (done []) (omega arith) tt
 
-aes_tests_told : (s key block random : ℕ) (fits : Bool) → Told (aes.call_tests s key block random fits)
-unfolding aes.call_tests
-aes_tests_told s key block random fits =
-    told_test (one_to 9 s) 7 0 _ (omega arith)
-    (told_test (aes.block_lengths s key block random fits) 2 0 (done []) (omega arith) tt)
-
 pub aes_block_told : (s : ℕ) (key block random : List ℕ) (out : ℕ) → Told (aes.block_outcome s key block random out)
-unfolding aes.block_outcome aes.block_call
+unfolding aes.block_outcome ciphering.call_of
 aes_block_told s key block random out =
-    call_told (aes.block_call s key block random) (eqb out (16 * s))
-    (aes_tests_told s (length key) (length block) (length random) (eqb out (16 * s)))
+    call_told (aes.block_call s key block random) (eqb out (16 * s)) (tests_told (aes.enciphering s) tt key block random (eqb out (16 * s)))
 
 pub aes_block_watch_told : (s : ℕ) (key block random list : List ℕ) (values : ℕ) → Told (aes.watch_outcome s key block random list values)
-unfolding aes.watch_outcome aes.block_call
+unfolding aes.watch_outcome ciphering.call_of
 aes_block_watch_told s key block random list values =
-    watch_told (aes.block_call s key block random) list values
-    (aes_tests_told s (length key) (length block) (length random) (list_fits (length list) values))
+    watch_told (aes.block_call s key block random) list values (tests_told (aes.enciphering s) tt key block random (list_fits (length list) values))
 
 pub split_told : (value s masks out : ℕ) → Told (split_outcome value s masks out)
 unfolding split_outcome

@@ -1,5 +1,6 @@
-// The C interface: the operations with slices as pointer and length, and the answer as four 64-bit words.
-#![tactic(auto)]
+// The C interface: the operations with slices as pointer and length, and the answer as four 64-bit words. Each takes the operation's own
+// arguments, one by one, as C passes them.
+#![tactic(auto, using(crate::proofs::Words::reported, crate::proofs::Words::said, crate::proofs::Words::reported_fit))]
 
 ghost use Rattle.std.specs.Prelude.{◌≡◌, length};
 ghost use Rattle.steps.specs.Operations.{split_outcome, split_shares, join_outcome, join_shares};

@@ -1,7 +1,6 @@
 -- ANSWERS ALIKE. Two calls of an operation, or of its watch, with the same records, share count, list and slice lengths give the same answer, whatever the
 -- shares and the random elements; and what they hand back are the paper's figures.
-use mathlib.Core.Path.{◌≡◌, refl, sym, ap, ap₂, ◌∙◌}
-use mathlib.Core.Bool.{Bool}
+use mathlib.Core.Path.{◌≡◌, sym, ap, ap₂, ◌∙◌}
 use mathlib.Core.List.{List, []}
 use Prim.Native.Nat.{ℕ, ◌*◌, ◌%◌}
 use lib.Dec.{leb, eqb}
@@ -9,9 +8,10 @@ use lib.ListN.{length}
 use Rattle.xor.specs.Sum.{Small}
 use Rattle.refusal.specs.Outcome.{Outcome, done, test, and_then}
 use Rattle.steps.specs.Alike.{SameLengths}
-use Rattle.steps.specs.Call.{Call, call_outcome, watch_outcome, figures_of}
-use Rattle.steps.proofs.Call.{counts_taken, HandsBack, call_answers, call_figures}
-use Rattle.steps.proofs.Call as call
+use Rattle.steps.specs.Call.{Call}
+use Rattle.steps.specs.Ciphering.{call_of, figures_for}
+use Rattle.steps.proofs.Ciphering.{call_figures, calls_alike, watches_alike}
+use Rattle.steps.proofs.Ciphering as ciphering
 use Rattle.decomposition.specs.Layout.{layout}
 use Rattle.decomposition.specs.Record.{SameRecord, coefficients_of, read_outcome, width_of}
 use Rattle.decomposition.specs.Check.{first_difference, form_in}
@@ -19,45 +19,12 @@ use Rattle.decomposition.proofs.Theorems.{same_read}
 use Rattle.present.specs.Present.{table}
 use Rattle.present.specs.Decrypt.{inverse_table}
 use Rattle.cipher.specs.Figures.{figures, open_figures}
-use Rattle.cipher.specs.Ciphering.{Ciphering, operation, computes_table, record_tests, argument_tests, call_tests, call_of, figures_for}
+use Rattle.cipher.specs.Ciphering.{operation, computes_table, record_tests}
 use Rattle.cipher.specs.Operations as operations
 use Rattle.cipher.specs.Operations.{sealed, sealing, block_call, block_outcome}
 use Rattle.cipher.specs.OpenOperations.{both_tests, opened, opening, open_call, open_outcome, watch_open_outcome}
-use Rattle.cipher.proofs.Calls.{tests_passed, Good, good_call, call_takes}
 use Rattle.cipher.proofs.Theorems.{sealing_good}
 use Rattle.cipher.proofs.OpenTheorems.{opening_good}
-
--- ---- of every operation
-
--- the tests go by the records and lengths
-tests_alike : (c : Ciphering) {key key' block block' random random' : List ℕ} → SameLengths key key' block block' random random'
-    → (fits : Bool) → call_tests c key block random fits ≡ call_tests c key' block' random' fits
-unfolding call_tests argument_tests
-tests_alike c h fits = rw (h.same_key, h.same_block, h.same_random)
-
-module _ {f : ℕ → ℕ → ℕ} (c : Ciphering) (good : Good f c) where
-  -- where the tests are passed the figures are the paper's
-  pub counts_figures : (key block random : List ℕ) → Small 8 key → Small 8 block → Small 8 random → HandsBack (call_of c key block random) (figures_for c)
-  unfolding figures_for call_of figures_of
-  counts_figures key block random hk hb hr fits v e =
-      let a = (tests_passed c key block random fits e).0 in
-      counts_taken (call_of c key block random) (call_takes (good_call good a) a hk hb hr)
-
-  module _ {key key' block block' random random' : List ℕ} (h : SameLengths key key' block block' random random') where
-    pub calls_alike : (fits : Bool) → call_outcome (call_of c key block random) fits ≡ call_outcome (call_of c key' block' random') fits
-    unfolding call_of
-    calls_alike =
-        call_answers (call_of c key block random) (call_of c key' block' random') (tests_alike c h)
-        (counts_figures key block random h.key_bytes h.block_bytes h.random_bytes)
-        (counts_figures key' block' random' h.key_bytes' h.block_bytes' h.random_bytes')
-
-    pub watches_alike : (list : List ℕ) (values : ℕ)
-        → watch_outcome (call_of c key block random) list values ≡ watch_outcome (call_of c key' block' random') list values
-    unfolding call_of
-    watches_alike =
-        call.watch_answers (call_of c key block random) (call_of c key' block' random') (tests_alike c h)
-        (counts_figures key block random h.key_bytes h.block_bytes h.random_bytes)
-        (counts_figures key' block' random' h.key_bytes' h.block_bytes' h.random_bytes') refl
 
 -- ---- of Block
 
@@ -65,15 +32,14 @@ module _ {f : ℕ → ℕ → ℕ} (c : Ciphering) (good : Good f c) where
 pub block_figures : (r : List ℕ) (s : ℕ) (key block random : List ℕ) (out : ℕ) → Small 8 key → Small 8 block → Small 8 random
     → {v : List ℕ} → block_outcome r s key block random out ≡ done v → v ≡ figures s
 unfolding block_outcome figures figures_for
-block_figures r s key block random out hk hb hr e =
-    call_figures (block_call r s key block random) (counts_figures (sealing r s) (sealing_good r s) key block random hk hb hr) (eqb out (8 * s)) e
+block_figures r s key block random out hk hb hr = call_figures (sealing r s) (sealing_good r s) key block random hk hb hr (eqb out (8 * s))
 
 -- a watch that is done hands back the same
 pub watch_figures : (r : List ℕ) (s : ℕ) (key block random list : List ℕ) (values : ℕ) → Small 8 key → Small 8 block → Small 8 random
     → {v : List ℕ} → operations.watch_outcome r s key block random list values ≡ done v → v ≡ figures s
 unfolding operations.watch_outcome figures figures_for
-watch_figures r s key block random list values hk hb hr e =
-    call.watch_figures (block_call r s key block random) (counts_figures (sealing r s) (sealing_good r s) key block random hk hb hr) list values e
+watch_figures r s key block random list values hk hb hr =
+    ciphering.watch_figures (sealing r s) (sealing_good r s) key block random hk hb hr list values
 
 module _ (r : List ℕ) (s : ℕ) {key key' block block' random random' : List ℕ} (h : SameLengths key key' block block' random random') where
   pub block_answers : (out : ℕ) → block_outcome r s key block random out ≡ block_outcome r s key' block' random' out
@@ -91,15 +57,14 @@ module _ (r : List ℕ) (s : ℕ) {key key' block block' random random' : List �
 pub open_figures_lem : (r q : List ℕ) (s : ℕ) (key block random : List ℕ) (out : ℕ) → Small 8 key → Small 8 block → Small 8 random
     → {v : List ℕ} → open_outcome r q s key block random out ≡ done v → v ≡ open_figures s
 unfolding open_outcome open_figures figures_for
-open_figures_lem r q s key block random out hk hb hr e =
-    call_figures (open_call r q s key block random) (counts_figures (opening r q s) (opening_good r q s) key block random hk hb hr) (eqb out (8 * s)) e
+open_figures_lem r q s key block random out hk hb hr = call_figures (opening r q s) (opening_good r q s) key block random hk hb hr (eqb out (8 * s))
 
 -- a watch that is done hands back the same
 pub watch_open_figures : (r q : List ℕ) (s : ℕ) (key block random list : List ℕ) (values : ℕ) → Small 8 key → Small 8 block → Small 8 random
     → {v : List ℕ} → watch_open_outcome r q s key block random list values ≡ done v → v ≡ open_figures s
 unfolding watch_open_outcome open_figures figures_for
-watch_open_figures r q s key block random list values hk hb hr e =
-    call.watch_figures (open_call r q s key block random) (counts_figures (opening r q s) (opening_good r q s) key block random hk hb hr) list values e
+watch_open_figures r q s key block random list values hk hb hr =
+    ciphering.watch_figures (opening r q s) (opening_good r q s) key block random hk hb hr list values
 
 module _ (r q : List ℕ) (s : ℕ) {key key' block block' random random' : List ℕ} (h : SameLengths key key' block block' random random') where
   pub open_answers : (out : ℕ) → open_outcome r q s key block random out ≡ open_outcome r q s key' block' random' out

@@ -1,118 +1,69 @@
--- The laws of calls, for every masked operation of a key and a block: the arguments that pass the tests, and what a run hands back and writes.
-use mathlib.Core.Path.{◌≡◌, refl, sym, ap, ◌∙◌}
-use mathlib.Core.Bool.{Bool, true, and-eq-true_iff}
-use mathlib.Core.List.{List, [], ◌∷◌}
+-- The laws of masked ciphers of PRESENT-80: one that is right on numbers is right on bytes, as every masked operation of a key and a block is asked to be
+-- (crates/steps/proofs/Ciphering.antt), and the bytes of the shares of its result.
+use mathlib.Core.Path.{◌≡◌, sym, ap, ap₂, ◌∙◌}
+use mathlib.Core.List.{List}
 use Prim.Native.Nat.{ℕ, ◌*◌, ◌≤◌, ◌<◌}
-use borrow.Author.Tests.{eqb-true, eq-eqb}
-use lib.Dec.{eqb}
-use lib.ListN.{length}
+use lib.ListN.{length, take}
 use Rattle.xor.specs.Sum.{join, Small}
-use Rattle.refusal.specs.Outcome.{done}
-use Rattle.refusal.specs.Range.{one_to}
-use Rattle.refusal.specs.Large.{first_large}
-use Rattle.refusal.proofs.Outcome.{passed, then_passed}
-use Rattle.refusal.proofs.Range.{one_to_range}
-use Rattle.steps.specs.declared.counts.Counts.{Counts}
+use Rattle.refusal.specs.Outcome.{Outcome, done}
+use Rattle.steps.specs.Program.{result}
 use Rattle.steps.specs.Sharing.{share}
-use Rattle.steps.specs.Tape.{elements, bytes_for}
-use Rattle.steps.specs.Machine.{State, start_of, Ready, Went, Whole}
-use Rattle.steps.specs.Call.{call_counts, call_result, watch_output, Takes}
+use Rattle.steps.specs.Fill.{tabulate}
+use Rattle.steps.specs.Tape.{elements}
+use Rattle.steps.specs.Bytes.{to_bytes}
 use Rattle.steps.specs.ShareBytes.{share_at, shares_of, sharing, bytes_of}
+use Rattle.steps.specs.Ciphering as ciphering
 use Rattle.steps.proofs.Tape.{elements_nibbles}
-use Rattle.steps.proofs.Call as call
 use Rattle.steps.proofs.Fill.{tabulate_same}
+use Rattle.steps.proofs.Sharing.{without_past}
 use Rattle.steps.proofs.View.{share_sharing}
-use Rattle.steps.proofs.ShareBytes.{shares_sharing}
-use Rattle.cipher.specs.Ciphering.{Ciphering, call_lengths, argument_tests, call_tests, call_program, call_of, output_of, Callable, Right}
+use Rattle.steps.proofs.Stored.{bytes_of_shares, shares_of_bytes}
+use Rattle.steps.proofs.ShareBytes.{shares_sharing, bytes_of_small, join_number, join_writes}
+use Rattle.steps.proofs.Ciphering as ciphering_laws
+use Rattle.cipher.specs.Ciphering.{Cipher, operation, Right}
 
--- ---- a call that passes the tests
+-- where a sharing lies in bytes, these are the bytes of its shares
+pub bytes_written : (s : ℕ) (l : List ℕ) → s ≤ 9 → Small 8 l → 8 * s ≤ length l → take (8 * s) l ≡ bytes_of 8 (tabulate s (share (sharing 8 s l)))
+unfolding shares_of
+bytes_written s l nine h few =
+    sym (bytes_of_shares 8 l h s few)
+    ∙ ap (bytes_of 8) (tabulate_same s (share_at 8 l) (share (sharing 8 s l)) (λ i k. sym (share_sharing 8 s l i nine k)))
 
--- the lengths that a call takes, and that these are all
-call_lengths_lem : (w d s key block random : ℕ) (fits : Bool) → call_lengths w d s key block random fits ≡ true
-    → (key ≡ w * s) × (block ≡ 8 * s) × (random ≡ bytes_for 4 d) × (fits ≡ true)
-unfolding call_lengths
-call_lengths_lem w d s key block random fits e =
-    let a = (and-eq-true_iff (eqb key (w * s)) _).0 e in
-    let b = (and-eq-true_iff (eqb block (8 * s)) _).0 a.1 in
-    let c = (and-eq-true_iff (eqb random (bytes_for 4 d)) fits).0 b.1 in
-    (eqb-true _ _ a.0, eqb-true _ _ b.0, eqb-true _ _ c.0, c.1)
+-- ---- on shares of a key and of a block in bytes
 
-pub call_lengths_right : (w d s key block random : ℕ) (fits : Bool)
-    → key ≡ w * s → block ≡ 8 * s → random ≡ bytes_for 4 d → fits ≡ true → call_lengths w d s key block random fits ≡ true
-unfolding call_lengths
-call_lengths_right w d s key block random fits ek eb er ef =
-    rw (eq-eqb key (w * s) ek, eq-eqb block (8 * s) eb, eq-eqb random (bytes_for 4 d) er, ef) refl
+module _ {c : Cipher} {s : ℕ} (right : Right c s) (key block random : List ℕ) (hk : Small 8 key) (hb : Small 8 block)
+    (hr : Small 4 (elements 4 random)) where
+  -- its result
+  abbrev ended : List ℕ
+  ended = result (c.program s (shares_of 10 s key) (shares_of 8 s block)) (elements 4 random)
 
--- where the tests are passed, so is each of them
-pub tests_passed : (c : Ciphering) (key block random : List ℕ) (fits : Bool) {numbers : List ℕ} → call_tests c key block random fits ≡ done numbers
-    → Callable c key block random × (fits ≡ true)
-unfolding call_tests argument_tests
-tests_passed c key block random fits e =
-    let a = then_passed c.records _ e in
-    let f = passed (one_to 9 c.shares) 7 0 _ a.2 in
-    let g = passed (call_lengths c.key_bytes c.draws c.shares (length key) (length block) (length random) fits) 2 0 _ f.1 in
-    let lengths = call_lengths_lem c.key_bytes c.draws c.shares (length key) (length block) (length random) fits g.0 in
-    let range = one_to_range 9 c.shares f.0 in (
-      record {
-        records_pass = (a.0, a.1);
-        some = range.0;
-        nine = range.1;
-        key_length = lengths.0;
-        block_length = lengths.1;
-        random_length = lengths.2;
-      },
-      lengths.3,
-    )
+  -- is a sharing of what it computes, and so are its bytes
+  pub bytes_join : join (shares_of 8 s (bytes_of 8 (tabulate s (share ended))))
+      ≡ c.computes (join (shares_of 10 s key)) (join (shares_of 8 s block))
+  bytes_join =
+      let h = right.ends _ _ _ _ (elements 4 random) (shares_sharing 10 s key hk) (shares_sharing 8 s block hb) hr in
+      ap join (shares_of_bytes 8 s (share ended) (λ i. h.small i)) ∙ without_past s ended h.past ∙ h.joins
 
--- ---- what is asked of an operation
+-- ---- right on bytes
 
--- so much where its records pass their tests, with 1 to 9 shares
-abbrev pub Good : (ℕ → ℕ → ℕ) → Ciphering → Type 0
-Good f c = (v : List ℕ) → c.records ≡ done v → 0 < c.shares → c.shares ≤ 9 → Right f c
+pub right_on_bytes : (o : Outcome) (c : Cipher) (s : ℕ) → Right c s → ciphering.Right (operation o c s)
+right_on_bytes o c s right = record {
+  elements_small = elements_nibbles;
+  joins = λ {key} {block} {random} a h.
+      join_writes 8 s _ (bytes_of_small 8 _)
+      ∙ ap (to_bytes 8)
+      (bytes_join right key block random h.key_small h.block_small h.random_small
+      ∙ ap₂ c.computes (sym (join_number 10 s key h.key_small)) (sym (join_number 8 s block h.block_small)));
+  takes = λ {key} {block} {random} a h.
+      right.takes _ _ _ _ (elements 4 random) (shares_sharing 10 s key h.key_small) (shares_sharing 8 s block h.block_small) h.random_small;
+  few = right.few;
+  some_steps = right.some_steps;
+}
 
-pub good_call : {f : ℕ → ℕ → ℕ} {c : Ciphering} {key block random : List ℕ} → Good f c → Callable c key block random → Right f c
-good_call good a = good _ a.records_pass.1 a.some a.nine
+-- so much where the records pass their tests, with 1 to 9 shares
+abbrev pub Good : Outcome → Cipher → ℕ → Type 0
+Good o c s = (v : List ℕ) → o ≡ done v → 0 < s → s ≤ 9 → Right c s
 
--- ---- its run
-
-module _ {f : ℕ → ℕ → ℕ} {c : Ciphering} (right : Right f c) {key block random : List ℕ} (a : Callable c key block random)
-    (hk : Small 8 key) (hb : Small 8 block) (hr : Small 8 random) where
-  -- what it takes
-  pub call_takes : Takes (call_program c key block) (elements 4 random) c.products c.draws c.steps
-  unfolding call_program
-  call_takes =
-      let ks = shares_of c.key_bytes c.shares key in
-      let xs = shares_of 8 c.shares block in
-      right.takes (join ks) (join xs) ks xs (elements 4 random) (shares_sharing c.key_bytes c.shares key hk)
-      (shares_sharing 8 c.shares block hb) (elements_nibbles random hr)
-
-  -- it may run
-  pub call_ready : {watch vs : List ℕ} → length watch ≡ length vs
-      → Ready (call_program c key block) (start_of (elements 4 random) watch vs)
-  unfolding call_of
-  call_ready e =
-      let few = right.few in
-      call.call_ready (call_of c key block random) call_takes few.0 few.1 few.2 a.random_length e
-
-  -- what a watch leaves, where each number of the list is that of a step
-  pub call_watched : {list vs x : List ℕ} {m : State} → length list ≡ length vs → length list ≤ first_large c.steps list
-      → Went (call_program c key block) (start_of (elements 4 random) list vs) x m → m.values ≡ watch_output (call_of c key block random) list
-  unfolding call_of
-  call_watched e below w = call.call_watched (call_of c key block random) call_takes right.some_steps e below w
-
-module _ {c : Ciphering} {key block random : List ℕ} (a : Callable c key block random) where
-  -- what it hands back and writes
-  pub call_counts_lem : {x : List ℕ} {n : Counts} → Whole (elements 4 random) (call_program c key block) x n
-      → call_counts (call_of c key block random) ≡ n.products ∷ bytes_for 4 n.random ∷ n.steps ∷ []
-  unfolding call_of
-  call_counts_lem w = call.call_counts_lem (call_of c key block random) w
-
-  pub call_output : (l : List ℕ) {n : Counts} → Whole (elements 4 random) (call_program c key block) (sharing 8 c.shares l) n
-      → bytes_of 8 (shares_of 8 c.shares l) ≡ output_of c key block random
-  unfolding output_of shares_of call_of
-  call_output l w =
-      let s = c.shares in
-      let e : sharing 8 s l ≡ call_result (call_of c key block random) = call.call_result_lem (call_of c key block random) w in
-      ap (bytes_of 8)
-      (tabulate_same s (share_at 8 l) (share (call_result (call_of c key block random)))
-      (λ i h. sym (share_sharing 8 s l i a.nine h) ∙ ap (λ (x : List ℕ). share x i) e))
+pub good_on_bytes : (o : Outcome) (c : Cipher) (s : ℕ) → Good o c s → ciphering_laws.Good (operation o c s)
+good_on_bytes o c s good =
+    record { elements_small = elements_nibbles; right = λ {v} e some nine. right_on_bytes o c s (good v e some nine) }

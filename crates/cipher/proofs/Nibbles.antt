@@ -1,15 +1,15 @@
 -- The S-box on a nibble of each share: what it takes, what it gives, and what that comes to on the machine.
-use mathlib.Core.Path.{◌≡◌, refl, sym, ap, ◌∙◌}
+use mathlib.Core.Path.{◌≡◌, refl, ap, ◌∙◌}
 use mathlib.Core.List.{List, map}
 use Prim.Native.Nat.{ℕ, ◌≤◌, ◌<◌}
 use lib.ListN.{length, drop}
 use Rattle.xor.specs.Sum.{join, Small}
 use Rattle.xor.proofs.Sum.{additive_below_zero, small_drop}
-use Rattle.steps.specs.Program.{Run, return, result}
+use Rattle.steps.specs.Program.{Run, return}
 use Rattle.steps.specs.Sharing.{share, Sharing, share_wise}
 use Rattle.steps.specs.ShareBytes.{share_at, shares_of, sharing}
-use Rattle.steps.specs.Machine.{State, Ended, Went}
-use Rattle.steps.proofs.Exec.{exec_whole}
+use Rattle.steps.specs.Machine.{State, Went}
+use Rattle.steps.proofs.Exec.{went_result}
 use Rattle.steps.proofs.Parts.{went_map}
 use Rattle.steps.proofs.ShareWise.{share_map}
 use Rattle.steps.proofs.View.{share_past}
@@ -34,10 +34,6 @@ column_sharing w s k l nine =
           ∙ additive_below_zero 0 (nibble k) (nibble_linear 0 k).additive;
       joins = refl;
     }
-
--- where a program has ended, its result
-went_result : {A : Type 0} (p : Run A) {m m' : State} {x : A} → Went p m x m' → x ≡ result p (drop m.counts.random m.tape)
-went_result {A} p {m} w = ap (λ (e : Ended A). e.result) (sym w.runs ∙ exec_whole p m)
 
 module _ {m : State} (box : List ℕ → Run (List ℕ)) (k : ℕ) (a x : List ℕ) (e : x ≡ map (nibble k) a) where
   -- the S-box may run on nibble k of each share,

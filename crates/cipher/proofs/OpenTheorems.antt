@@ -16,6 +16,7 @@ use Rattle.steps.specs.Sharing.{Sharing}
 use Rattle.steps.specs.Tape.{bytes_for, Full}
 use Rattle.steps.specs.Call.{Takes}
 use Rattle.steps.proofs.TwoSecrets.{two_trace}
+use Rattle.steps.proofs.Ciphering as ciphering
 use Rattle.sbox.proofs.Counts.{uniform_sbox}
 use Rattle.product.proofs.Counts.{few_pairs, pairs_twice}
 use Rattle.present.specs.Present.{table, substitute, size80, State}
@@ -31,11 +32,11 @@ use Rattle.present.proofs.Secrecy.{secret_untouched_share, secret_few_steps, cho
 use Rattle.decomposition.specs.Record.{coefficients_of}
 use Rattle.cipher.specs.Box.{record_sbox, open_program}
 use Rattle.cipher.specs.Figures.{open_products, open_draws, open_steps}
-use Rattle.cipher.specs.Ciphering.{Realizes, Right, accepted, experiment_of}
-use Rattle.cipher.specs.OpenOperations.{opened, opening}
+use Rattle.cipher.specs.Ciphering.{Realizes, Right, experiment_of}
+use Rattle.cipher.specs.OpenOperations.{both_tests, opened, opening}
 use Rattle.cipher.specs.Experiment.{PresentRecord, InverseRecord, box_shape, open_experiment, open_inputs}
 use Rattle.cipher.proofs.Records.{both_records, record_small, record_realizes}
-use Rattle.cipher.proofs.Calls.{Good}
+use Rattle.cipher.proofs.Calls.{Good, good_on_bytes}
 use Rattle.cipher.proofs.Box.{substitutes, hides}
 use Rattle.cipher.proofs.Programs.{Figured, run_ends, run_takes, run_draws, pairs_bytes, pairs_full}
 use Rattle.cipher.proofs.Theorems.{box_steps, box_draws, box_products, few_squares}
@@ -152,7 +153,7 @@ unfolding open_steps
 some_steps s h = omega arith
 
 pub opened_right : (cs ds : List ℕ) → Small 4 cs → Realizes table cs → Small 4 ds → Realizes inverse_table ds → (s : ℕ) → 0 < s → s ≤ 9
-    → Right (decrypt size80) (accepted (opened cs ds) s)
+    → Right (opened cs ds) s
 opened_right cs ds small realizes small' realizes' s some nine =
     let computes = opened_computes cs ds small realizes small' realizes' s some nine in
     record {
@@ -162,12 +163,13 @@ opened_right cs ds small realizes small' realizes' s some nine =
       some_steps = some_steps s some;
     }
 
-pub opening_good : (r q : List ℕ) (s : ℕ) → Good (decrypt size80) (opening r q s)
-opening_good r q s v e some nine =
+pub opening_right : (r q : List ℕ) (s : ℕ) → Good (both_tests r q) (opened (coefficients_of r) (coefficients_of q)) s
+opening_right r q s v e =
     let both = both_records r q e in
-    let right = opened_right (coefficients_of r) (coefficients_of q) (record_small both.0) (record_realizes both.0) (record_small both.1)
-    (record_realizes both.1) s some nine in
-    record { ends = right.ends; takes = right.takes; few = right.few; some_steps = right.some_steps }
+    opened_right (coefficients_of r) (coefficients_of q) (record_small both.0) (record_realizes both.0) (record_small both.1) (record_realizes both.1) s
+
+pub opening_good : (r q : List ℕ) (s : ℕ) → ciphering.Good (opening r q s)
+opening_good r q s = good_on_bytes (both_tests r q) (opened (coefficients_of r) (coefficients_of q)) s (opening_right r q s)
 
 -- ---- in bytes
 

@@ -2,7 +2,7 @@
 use Prim.Native.Nat.{ℕ, ◌<◌}
 use Rattle.xor.specs.Sum.{Small}
 use Rattle.steps.specs.Program.{Run, ◌>>=◌, for}
-use Rattle.steps.specs.Machine.{State, Went, After}
+use Rattle.steps.specs.Machine.{State, Ready, Went, After}
 use Rattle.steps.specs.Loop.{Going}
 use Rattle.steps.proofs.Loop.{going_ready}
 use Rattle.steps.proofs.Parts.{ready_first, ready_next, went_after}
@@ -11,6 +11,10 @@ use Rattle.cipher.specs.Rounds.{Prepared}
 -- the random elements are the same all along
 still_nibbles : {s s' : State} → After s s' → Small 4 s.tape → Small 4 s'.tape
 still_nibbles a h = rw a.same_tape h
+
+-- as an operation's run is asked
+pub prepared : {A : Type 0} {m : Run A} {s : State} → Ready m s → Small 4 s.tape → Prepared m s
+prepared y h = record { ready = y; nibbles = h }
 
 module _ {A B : Type 0} {s : State} where
   -- the first part

@@ -1,7 +1,7 @@
 -- TO COUNT TAPES IS TO COUNT CALLS. The tapes that `choices` counts are those of the choices, one to one, and each
 -- with a key and a block settles one call (crates/steps/proofs/Settled.antt). The watch of an operation accepts it, with any list of up to 64 step
 -- numbers, and writes the values that are counted: those of the experiment on this tape.
-use mathlib.Core.Path.{◌≡◌, sym, ap, ◌∙◌}
+use mathlib.Core.Path.{◌≡◌}
 use mathlib.Core.List.{List, [], ◌∷◌}
 use Prim.Native.Nat.{ℕ, ◌≤◌, ◌<◌}
 use lib.ListN.{length, get_or}
@@ -10,34 +10,21 @@ use Rattle.steps.specs.Program.{trace}
 use Rattle.steps.specs.Watch.{watched}
 use Rattle.steps.specs.Choices.{Fits}
 use Rattle.steps.specs.Tape.{elements}
-use Rattle.steps.specs.Settled.{Choice, choice_bits, masks_then, Chosen, Settles, Settled}
-use Rattle.steps.specs.Call as call
+use Rattle.steps.specs.Settled.{Choice, choice_bits, masks_then, Chosen, Settles}
+use Rattle.steps.specs.Ciphering.{figures_for}
 use Rattle.steps.proofs.Chosen.{choice_tape, tape_choice}
+use Rattle.steps.proofs.CipheringChoices as choices
+use Rattle.decomposition.specs.Record.{coefficients_of}
 use Rattle.present.specs.Present.{table, State}
+use Rattle.cipher.specs.Box.{block_program, open_program}
 use Rattle.cipher.specs.Figures.{figures, block_steps, open_figures, open_steps}
 use Rattle.cipher.specs.Experiment.{experiment, block_inputs, open_experiment, open_inputs}
-use Rattle.cipher.specs.Ciphering.{record_tests, Ciphering, call_of, figures_for, inputs_of, experiment_of}
-use Rattle.cipher.specs.Operations.{sealing, watch_outcome, watch_output}
-use Rattle.cipher.specs.OpenOperations.{both_tests, opening, watch_open_outcome, watch_open_output}
-use Rattle.cipher.proofs.Calls.{Good}
+use Rattle.cipher.specs.Ciphering.{record_tests, experiment_of}
+use Rattle.cipher.specs.Operations.{sealed, sealing, watch_outcome, watch_output}
+use Rattle.cipher.specs.OpenOperations.{both_tests, opened, opening, watch_open_outcome, watch_open_output}
 use Rattle.cipher.proofs.Theorems.{sealing_good, block_full}
 use Rattle.cipher.proofs.OpenTheorems.{opening_good, open_full}
-use Rattle.cipher.proofs.Watched.{shows}
-use Rattle.cipher.proofs.Settles.{settled_watch_accepts}
-
--- ---- of every operation
-
-tape_watching : {f : ℕ → ℕ → ℕ} (o : Ciphering) → Good f o → o.records ≡ done [] → 0 < o.shares → o.shares ≤ 9 → (x : State ℕ) {tape key block : List ℕ}
-    → (c : Chosen (inputs_of o) tape) → Settles (inputs_of o).secrets (x.key ∷ x.block ∷ []) c.masks (key ∷ block ∷ [])
-    → (list : List ℕ) → length list ≤ 64 → ((k : ℕ) → get_or list k 0 < o.steps)
-    → (call.watch_outcome (call_of o key block c.random) list (length list) ≡ done (figures_for o))
-    × (call.watch_output (call_of o key block c.random) list ≡ watched list (trace (experiment_of o x) tape))
-tape_watching o good records some nine x {tape} {key} {block} c h list few below =
-    let settled : Settled (inputs_of o) (key ∷ block ∷ []) c.random =
-    record { values = x.key ∷ x.block ∷ []; masks = c.masks; choice = c.choice; settles = h } in (
-      settled_watch_accepts o good records some nine key block c.random settled list few below,
-      shows o some x c.random list c.choice.masks_are h ∙ ap (λ (t : List ℕ). watched list (trace (experiment_of o x) t)) (sym c.tape_is),
-    )
+use Rattle.cipher.proofs.Watched.{same_steps}
 
 -- ---- of Block
 
@@ -55,8 +42,9 @@ pub tape_watched : (r : List ℕ) (s : ℕ) → record_tests table r ≡ done []
     → (list : List ℕ) → length list ≤ 64 → ((k : ℕ) → get_or list k 0 < block_steps s)
     → (watch_outcome r s key block c.random list (length list) ≡ done (figures s))
     × (watch_output r s key block c.random list ≡ watched list (trace (experiment r s x) tape))
-unfolding watch_outcome watch_output figures figures_for experiment
-tape_watched r s = tape_watching (sealing r s) (sealing_good r s)
+unfolding watch_outcome watch_output figures figures_for experiment experiment_of
+tape_watched r s tests some nine x =
+    choices.tape_watched (sealing r s) (block_program r s) (same_steps (sealed (coefficients_of r)) s some) (sealing_good r s) tests some nine x.key x.block
 
 -- ---- of Open
 
@@ -72,5 +60,7 @@ pub open_tape_watched : (r q : List ℕ) (s : ℕ) → both_tests r q ≡ done [
     → (list : List ℕ) → length list ≤ 64 → ((k : ℕ) → get_or list k 0 < open_steps s)
     → (watch_open_outcome r q s key block c.random list (length list) ≡ done (open_figures s))
     × (watch_open_output r q s key block c.random list ≡ watched list (trace (open_experiment r q s x) tape))
-unfolding watch_open_outcome watch_open_output open_figures figures_for open_experiment
-open_tape_watched r q s = tape_watching (opening r q s) (opening_good r q s)
+unfolding watch_open_outcome watch_open_output open_figures figures_for open_experiment experiment_of
+open_tape_watched r q s tests some nine x =
+    choices.tape_watched (opening r q s) (open_program r q s) (same_steps (opened (coefficients_of r) (coefficients_of q)) s some) (opening_good r q s)
+    tests some nine x.key x.block

@@ -17,6 +17,7 @@ use Rattle.steps.specs.Sharing.{Sharing}
 use Rattle.steps.specs.Tape.{bytes_for, Full}
 use Rattle.steps.specs.Call.{Takes}
 use Rattle.steps.proofs.TwoSecrets.{two_trace}
+use Rattle.steps.proofs.Ciphering as ciphering
 use Rattle.sbox.proofs.Counts.{sbox_steps_lem, sbox_draws_lem, sbox_products_lem, figures_4_4, uniform_sbox}
 use Rattle.product.proofs.Counts.{few_pairs}
 use Rattle.present.specs.Present.{table, substitute, size80, State, encrypt}
@@ -32,11 +33,11 @@ use Rattle.present.proofs.Secrecy.{secret_untouched_share, secret_few_steps, cho
 use Rattle.decomposition.specs.Record.{coefficients_of}
 use Rattle.cipher.specs.Box.{record_sbox, block_program}
 use Rattle.cipher.specs.Figures.{block_products, block_draws, block_steps}
-use Rattle.cipher.specs.Ciphering.{Realizes, Right, accepted, experiment_of}
+use Rattle.cipher.specs.Ciphering.{Realizes, record_tests, Right, experiment_of}
 use Rattle.cipher.specs.Operations.{sealed, sealing}
 use Rattle.cipher.specs.Experiment.{PresentRecord, box_shape, experiment, block_inputs}
 use Rattle.cipher.proofs.Records.{present_record, record_small, record_realizes}
-use Rattle.cipher.proofs.Calls.{Good}
+use Rattle.cipher.proofs.Calls.{Good, good_on_bytes}
 use Rattle.cipher.proofs.Box.{substitutes, hides}
 use Rattle.cipher.proofs.Programs.{Figured, run_ends, run_takes, run_draws, pairs_bytes, pairs_full}
 
@@ -161,7 +162,7 @@ some_steps : (s : ℕ) → 0 < s → 0 < block_steps s
 unfolding block_steps
 some_steps s h = omega arith
 
-pub sealed_right : (cs : List ℕ) → Small 4 cs → Realizes table cs → (s : ℕ) → 0 < s → s ≤ 9 → Right (encrypt size80) (accepted (sealed cs) s)
+pub sealed_right : (cs : List ℕ) → Small 4 cs → Realizes table cs → (s : ℕ) → 0 < s → s ≤ 9 → Right (sealed cs) s
 sealed_right cs small realizes s some nine =
     let computes = sealed_computes cs small realizes s some nine in
     record {
@@ -171,11 +172,11 @@ sealed_right cs small realizes s some nine =
       some_steps = some_steps s some;
     }
 
-pub sealing_good : (r : List ℕ) (s : ℕ) → Good (encrypt size80) (sealing r s)
-sealing_good r s v e some nine =
-    let h = present_record r e in
-    let right = sealed_right (coefficients_of r) (record_small h) (record_realizes h) s some nine in
-    record { ends = right.ends; takes = right.takes; few = right.few; some_steps = right.some_steps }
+pub sealing_right : (r : List ℕ) (s : ℕ) → Good (record_tests table r) (sealed (coefficients_of r)) s
+sealing_right r s v e = let h = present_record r e in sealed_right (coefficients_of r) (record_small h) (record_realizes h) s
+
+pub sealing_good : (r : List ℕ) (s : ℕ) → ciphering.Good (sealing r s)
+sealing_good r s = good_on_bytes (record_tests table r) (sealed (coefficients_of r)) s (sealing_right r s)
 
 -- ---- in bytes
 

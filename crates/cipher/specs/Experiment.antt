@@ -5,12 +5,13 @@ use Rattle.steps.specs.Shape.{Shape}
 use Rattle.steps.specs.Settled.{string, Inputs}
 use Rattle.sbox.specs.Shape.{sbox_shape}
 use Rattle.sbox.specs.Form.{basis_size}
+use Rattle.decomposition.specs.Record.{coefficients_of}
 use Rattle.present.specs.Present.{table, State}
 use Rattle.present.specs.Decrypt.{inverse_table}
 use Rattle.cipher.specs.Figures.{block_draws, open_draws}
 use Rattle.cipher.specs.Ciphering.{RecordOf, experiment_of}
-use Rattle.cipher.specs.Operations.{sealing}
-use Rattle.cipher.specs.OpenOperations.{opening}
+use Rattle.cipher.specs.Operations.{sealed}
+use Rattle.cipher.specs.OpenOperations.{opened}
 
 -- a record of PRESENT's table
 abbrev pub PresentRecord : List ℕ → Type 0
@@ -22,7 +23,7 @@ box_shape s = sbox_shape 4 s (basis_size 4 4)
 
 -- the experiment: shares 1 to s - 1 of the key and of the block are drawn, share 0 of each is the secret plus these, and the block is run
 unfoldable pub experiment : List ℕ → ℕ → State ℕ → Run (List ℕ)
-experiment r s = experiment_of (sealing r s)
+experiment r = experiment_of (sealed (coefficients_of r))
 
 -- the inputs of a call: a key of 10 bytes and a block of 8 in s shares each, and random elements of 4 bits
 abbrev pub block_inputs : ℕ → Inputs
@@ -36,7 +37,7 @@ InverseRecord = RecordOf inverse_table
 
 -- the experiment: the same of an opening
 unfoldable pub open_experiment : List ℕ → List ℕ → ℕ → State ℕ → Run (List ℕ)
-open_experiment r q s = experiment_of (opening r q s)
+open_experiment r q = experiment_of (opened (coefficients_of r) (coefficients_of q))
 
 -- the inputs of a call: a key of 10 bytes and a block of 8 in s shares each, and random elements of 4 bits
 abbrev pub open_inputs : ℕ → Inputs

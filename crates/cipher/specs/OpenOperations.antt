@@ -9,7 +9,8 @@ use Rattle.present.specs.Decrypt.{inverse_table, decrypt}
 use Rattle.present.specs.Opening.{masked_decrypt}
 use Rattle.cipher.specs.Box.{record_sbox}
 use Rattle.cipher.specs.Figures.{open_products, open_draws, open_steps}
-use Rattle.cipher.specs.Ciphering.{record_tests, Ciphering, Cipher, operation, call_of, output_of}
+use Rattle.steps.specs.Ciphering.{Ciphering, call_of, output_of}
+use Rattle.cipher.specs.Ciphering.{record_tests, Cipher, operation}
 
 -- ---- opening
 

@@ -8,7 +8,8 @@ use Rattle.present.specs.Present.{table, size80, encrypt}
 use Rattle.present.specs.Masked.{masked_encrypt}
 use Rattle.cipher.specs.Box.{record_sbox}
 use Rattle.cipher.specs.Figures.{block_products, block_draws, block_steps}
-use Rattle.cipher.specs.Ciphering.{record_tests, Ciphering, Cipher, operation, call_of, output_of}
+use Rattle.steps.specs.Ciphering.{Ciphering, call_of, output_of}
+use Rattle.cipher.specs.Ciphering.{record_tests, Cipher, operation}
 
 -- ---- sealing
 

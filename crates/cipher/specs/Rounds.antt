@@ -16,7 +16,7 @@ sbox_of b s = record_sbox s b.record.coefficients.now
 
 -- the sharings
 abbrev pub sharings : RoundState → State (List ℕ)
-sharings t = record { key = sharing 10 t.shares.count t.key; block = sharing 8 t.shares.count t.block }
+sharings t = record { key = sharing 10 t.count.shares.count t.key; block = sharing 8 t.count.shares.count t.block }
 
 -- Before a program that has S-boxes: it may run, and the random elements are nibbles.
 pub record Prepared {A : Type 0} (m : Run A) (s : machine.State) : Type 0 where

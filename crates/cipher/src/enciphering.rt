@@ -1,24 +1,25 @@
 // The operations Block and Watch block.
 ghost use Rattle.std.specs.Prelude.{◌≡◌, [], length, IfOk};
+ghost use Rattle.std.proofs.Common.{rules};
 ghost use Rattle.refusal.specs.Outcome.{Answered};
 ghost use Rattle.refusal.specs.Refusals.{report};
 ghost use Rattle.steps.specs.Taken.{handed};
 ghost use Rattle.decomposition.specs.Record.{coefficients_of};
 ghost use Rattle.present.specs.Present.{table};
-ghost use Rattle.cipher.specs.Ciphering.{Realizes, record_tests};
+ghost use Rattle.cipher.specs.Ciphering.{Realizes, record_tests, on_bytes};
 ghost use Rattle.cipher.specs.Operations.{sealed, block_outcome, block_output, watch_outcome, watch_output};
 
-use crate::calling::{Ciphering, call, watch};
-use crate::figures::{draw_count, step_count};
+use crate::figures::block_counts;
 use crate::linear_parts::{BlockShares, add_round_key};
 use crate::nibble_box::NibbleBox;
 use crate::rounds::RoundState;
 use refusal::Refusal;
+use steps::calling::{Ciphering, call, watch};
 use steps::machine::Machine;
 use steps::{ShareCount, Taken};
 
 // The table of PRESENT's S-box.
-const TABLE: [u8; 16] = [12, 5, 6, 11, 9, 0, 10, 13, 3, 14, 15, 8, 4, 7, 1, 2];
+pub const TABLE: [u8; 16] = [12, 5, 6, 11, 9, 0, 10, 13, 3, 14, 15, 8, 4, 7, 1, 2];
 
 // Masked encryption, by a record of the table.
 #[derive(Clone, Copy)]
@@ -39,15 +40,27 @@ impl<'a> Sealing<'a> {
     }
 }
 
-impl Ciphering for Sealing<'_> {
-    ghost cipher = { λ x. sealed x.nibble_box.record.coefficients.now };
+impl Ciphering<4, 72> for Sealing<'_> {
+    ghost KEY = { 10 };
+
+    ghost BLOCK = { 8 };
+
+    ghost cipher = { λ x. on_bytes (sealed x.nibble_box.record.coefficients.now) };
+
+    fn key_bytes(&self) -> usize {
+        10
+    }
+
+    fn block_bytes(&self) -> usize {
+        8
+    }
 
     fn draw_count(&self, s: ShareCount) -> usize {
-        draw_count(s.count)
+        block_counts(s).random
     }
 
     fn step_count(&self, s: ShareCount) -> u32 {
-        step_count(s.count as u32)
+        block_counts(s).steps
     }
 
     fn run<M: Machine>(
@@ -63,6 +76,8 @@ impl Ciphering for Sealing<'_> {
         add_round_key(machine, s, &state.key, &mut state.block);
         state.block
     }
+
+    ghost sizes = { Prim.search rules };
 }
 
 // The masked block of s shares, 1 to 9, of a key and of a block, by a record of PRESENT's S-box. `out` takes the shares of the result.

@@ -1,66 +1,40 @@
-// The figures of a masked block and of a masked opening of s shares.
-ghost use Rattle.std.specs.Prelude.{◌≡◌, ◌+◌, ◌-◌, ◌*◌, ◌<◌, ◌≤◌};
+// What a masked block and a masked opening of s shares take.
+ghost use Rattle.std.specs.Prelude.{◌≡◌, ◌+◌, ◌-◌, ◌*◌, ◌≤◌};
 ghost use Rattle.cipher.specs.Figures.{block_products, block_draws, block_steps, open_products, open_draws, open_steps};
 
-// How many masked products there are.
-pub fn product_count() -> usize
-    ensures { result ≡ block_products }
+use steps::{Counts, ShareCount};
+
+// What 31 rounds and a key addition take: a round has so many S-boxes, so many nibbles recorded of every share, and so many of share 0 alone.
+fn rounds_take(boxes: usize, nibbles: usize, single: usize, s: ShareCount) -> Counts
+    requires { (boxes ≤ 100) × (nibbles ≤ 100) × (single ≤ 100) }
+    ensures products { result.products ≡ 62 * boxes }
+    ensures draws { result.random ≡ 31 * boxes * (s.count * (s.count - 1)) }
+    ensures steps { result.steps ≡ 31 * (nibbles * s.count + boxes * (7 * (s.count * s.count) + 50 * s.count) + single) + 16 * s.count }
 {
-    1054
+    let n = s.count;
+    Counts {
+        products: 62 * boxes,
+        random: 31 * boxes * s.ordered_pairs(),
+        steps: (31 * (nibbles * n + boxes * (7 * (n * n) + 50 * n) + single) + 16 * n) as u32,
+    }
 }
 
-// How many random elements so many S-boxes draw.
-pub fn drawn_by(boxes: usize, s: usize) -> usize
-    requires { (boxes ≤ 1000) × (0 < s) × (s ≤ 9) }
-    ensures { result ≡ boxes * (s * (s - 1)) }
+// What a block takes.
+#[tactic(auto, unfolding(crate::specs::Figures::block_products, crate::specs::Figures::block_draws, crate::specs::Figures::block_steps))]
+pub fn block_counts(s: ShareCount) -> Counts
+    ensures products { result.products ≡ block_products }
+    ensures draws { result.random ≡ block_draws s.count }
+    ensures steps { result.steps ≡ block_steps s.count }
 {
-    boxes * (s * (s - 1))
+    rounds_take(17, 52, 2, s)
 }
 
-// How many steps there are in 31 rounds and a key addition: a round has so many S-boxes, so many nibbles recorded of every share, and so many of
-// share 0 alone.
-fn steps_by(boxes: u32, nibbles: u32, single: u32, s: u32) -> u32
-    requires { (boxes ≤ 100) × (nibbles ≤ 100) × (single ≤ 100) × (s ≤ 9) }
-    ensures { result ≡ 31 * (nibbles * s + boxes * (7 * (s * s) + 50 * s) + single) + 16 * s }
+// What an opening takes.
+#[tactic(auto, unfolding(crate::specs::Figures::open_products, crate::specs::Figures::open_draws, crate::specs::Figures::open_steps))]
+pub fn open_counts(s: ShareCount) -> Counts
+    ensures products { result.products ≡ open_products }
+    ensures draws { result.random ≡ open_draws s.count }
+    ensures steps { result.steps ≡ open_steps s.count }
 {
-    31 * (nibbles * s + boxes * (7 * (s * s) + 50 * s) + single) + 16 * s
-}
-
-// How many random elements the steps draw.
-pub fn draw_count(s: usize) -> usize
-    requires { (0 < s) × (s ≤ 9) }
-    ensures { result ≡ block_draws s }
-{
-    drawn_by(527, s)
-}
-
-// How many steps there are.
-pub fn step_count(s: u32) -> u32
-    requires { (0 < s) × (s ≤ 9) }
-    ensures { result ≡ block_steps s }
-{
-    steps_by(17, 52, 2, s)
-}
-
-// How many masked products there are in an opening.
-pub fn open_product_count() -> usize
-    ensures { result ≡ open_products }
-{
-    1116
-}
-
-// How many random elements the steps of an opening draw.
-pub fn open_draw_count(s: usize) -> usize
-    requires { (0 < s) × (s ≤ 9) }
-    ensures { result ≡ open_draws s }
-{
-    drawn_by(558, s)
-}
-
-// How many steps there are in an opening.
-pub fn open_step_count(s: u32) -> u32
-    requires { (0 < s) × (s ≤ 9) }
-    ensures { result ≡ open_steps s }
-{
-    steps_by(18, 72, 4, s)
+    rounds_take(18, 72, 4, s)
 }

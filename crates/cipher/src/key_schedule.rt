@@ -1,5 +1,4 @@
 // The key updates of a masked block and of a masked opening. Bytes past the shares in use are kept.
-ghost use Rattle.std.specs.Prelude.{◌<◌};
 ghost use Rattle.steps.specs.Program.{for};
 ghost use Rattle.steps.specs.Machine.{Went};
 ghost use Rattle.steps.specs.ShareBytes.{sharing, KeptPast};
@@ -8,28 +7,26 @@ ghost use Rattle.present.specs.Masked.{masked_update};
 ghost use Rattle.present.specs.Opening.{masked_undo_update};
 ghost use Rattle.cipher.specs.Rounds.{sbox_of, Prepared};
 
-use crate::linear_parts::{KeyShares, linear_map, round_number};
+use crate::linear_parts::{KeyShares, NonZeroCount, linear_map, round_number};
 use crate::nibble_box::NibbleBox;
-use layers::{InverseRotation, Rotation};
-use steps::ShareCount;
+use layers::{InverseRotation, Rotation, Round};
 use steps::machine::Machine;
 
 // The key update of round r.
 pub fn update_key<M: Machine>(
     machine: &mut M,
     nibble_box: &NibbleBox<'_>,
-    s: ShareCount,
-    r: u8,
+    s: NonZeroCount,
+    r: Round,
     key: &mut KeyShares,
 )
-    requires in_range { (0 < s.count) × (r < 32) }
-    requires prepared { Prepared (masked_update (sbox_of nibble_box.now s.count) size80 s.count r (sharing 10 s.count key.old))
+    requires { Prepared (masked_update (sbox_of nibble_box.now s.shares.count) size80 s.shares.count r.number (sharing 10 s.shares.count key.old))
         (M.state machine.old) }
-    ensures went { Went (masked_update (sbox_of nibble_box.now s.count) size80 s.count r (sharing 10 s.count key.old))
-        (M.state machine.old) (sharing 10 s.count key.new) (M.state machine.new) }
-    ensures kept_past { KeptPast 10 s.count key.old key.new }
+    ensures went { Went (masked_update (sbox_of nibble_box.now s.shares.count) size80 s.shares.count r.number (sharing 10 s.shares.count key.old))
+        (M.state machine.old) (sharing 10 s.shares.count key.new) (M.state machine.new) }
+    ensures kept_past { KeptPast 10 s.shares.count key.old key.new }
 {
-    linear_map::<Rotation, M>(machine, s, &mut *key);
+    linear_map::<Rotation, M>(machine, s.shares, &mut *key);
     nibble_box.substitute(machine, s, 10, 19, &mut *key);
     round_number(machine, s, r, key);
 }
@@ -38,37 +35,35 @@ pub fn update_key<M: Machine>(
 pub fn run_key<M: Machine>(
     machine: &mut M,
     nibble_box: &NibbleBox<'_>,
-    s: ShareCount,
+    s: NonZeroCount,
     key: &mut KeyShares,
 )
-    requires some { 0 < s.count }
-    requires prepared { Prepared (for 1 32 (masked_update (sbox_of nibble_box.now s.count) size80 s.count) (sharing 10 s.count key.old))
+    requires { Prepared (for 1 32 (masked_update (sbox_of nibble_box.now s.shares.count) size80 s.shares.count) (sharing 10 s.shares.count key.old))
         (M.state machine.old) }
-    ensures went { Went (for 1 32 (masked_update (sbox_of nibble_box.now s.count) size80 s.count) (sharing 10 s.count key.old))
-        (M.state machine.old) (sharing 10 s.count key.new) (M.state machine.new) }
-    ensures kept_past { KeptPast 10 s.count key.old key.new }
+    ensures went { Went (for 1 32 (masked_update (sbox_of nibble_box.now s.shares.count) size80 s.shares.count) (sharing 10 s.shares.count key.old))
+        (M.state machine.old) (sharing 10 s.shares.count key.new) (M.state machine.new) }
+    ensures kept_past { KeptPast 10 s.shares.count key.old key.new }
 {
     for r in 1..32 {
-        update_key(machine, nibble_box, s, r, key);
+        update_key(machine, nibble_box, s, Round { number: r }, key);
     }
 }
 
-// The key update of round r undone, from its last part to its first, by the inverse S-box.
+// The key update of round r undone, from its last part to its first, by the inverse S-box: other parts in another order, as the definition has them.
 pub fn undo_update<M: Machine>(
     machine: &mut M,
     inverse: &NibbleBox<'_>,
-    s: ShareCount,
-    r: u8,
+    s: NonZeroCount,
+    r: Round,
     key: &mut KeyShares,
 )
-    requires in_range { (0 < s.count) × (r < 32) }
-    requires prepared { Prepared (masked_undo_update (sbox_of inverse.now s.count) size80 s.count r (sharing 10 s.count key.old))
+    requires { Prepared (masked_undo_update (sbox_of inverse.now s.shares.count) size80 s.shares.count r.number (sharing 10 s.shares.count key.old))
         (M.state machine.old) }
-    ensures went { Went (masked_undo_update (sbox_of inverse.now s.count) size80 s.count r (sharing 10 s.count key.old))
-        (M.state machine.old) (sharing 10 s.count key.new) (M.state machine.new) }
-    ensures kept_past { KeptPast 10 s.count key.old key.new }
+    ensures went { Went (masked_undo_update (sbox_of inverse.now s.shares.count) size80 s.shares.count r.number (sharing 10 s.shares.count key.old))
+        (M.state machine.old) (sharing 10 s.shares.count key.new) (M.state machine.new) }
+    ensures kept_past { KeptPast 10 s.shares.count key.old key.new }
 {
     round_number(machine, s, r, &mut *key);
     inverse.substitute(machine, s, 10, 19, &mut *key);
-    linear_map::<InverseRotation, M>(machine, s, key);
+    linear_map::<InverseRotation, M>(machine, s.shares, key);
 }

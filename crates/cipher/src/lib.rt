@@ -1,9 +1,8 @@
 // Masked PRESENT-80. The operations Block and Watch block are `enciphering::block` and `enciphering::watch_block`, Open and Watch open are
-// `opening::open` and `opening::watch_open`. Each parses its records and then makes a call or a watch, which all of them share (`calling`); what it
-// runs, on the modules from `rounds` on, is its `run`.
+// `opening::open` and `opening::watch_open`. Each parses its records and then makes a call or a watch (`steps::calling`); what it runs is its `run`, over
+// `rounds`, `undoing` and what these call.
 #![tactic(auto)]
 
-mod calling;
 pub mod enciphering;
 pub mod figures;
 mod key_schedule;

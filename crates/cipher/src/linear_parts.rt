@@ -1,4 +1,5 @@
-// The linear parts of a round, and those of a round undone. Bytes past the shares in use are kept.
+// The linear parts of a round, and those of a round undone. Bytes past the shares in use are kept: each part says so of its own slice, where a
+// struct of the bytes with their count would say of each part that the count is kept.
 ghost use Rattle.std.specs.Prelude.{map, ◌*◌, ◌<◌, ◌≤◌, length};
 ghost use Rattle.steps.specs.Machine.{Ready, Went};
 ghost use Rattle.present.specs.Present.{size80};
@@ -6,9 +7,16 @@ ghost use Rattle.present.specs.Masked.{recorded, masked_add_round_key, add_round
 ghost use Rattle.steps.specs.ShareBytes.{sharing, KeptPast};
 
 use crate::recording::{record_nibbles, record_shares};
-use layers::ShareMap;
+use layers::{Round, ShareMap};
 use steps::ShareCount;
 use steps::machine::Machine;
+
+// A share count that is not 0, as that of a call: the round number goes to share 0, and what the S-box gives is a sharing.
+#[derive(Clone, Copy)]
+pub struct NonZeroCount {
+    pub shares: ShareCount,
+    pub ghost some: { 0 < shares.count },
+}
 
 // The shares of a block, 8 bytes each.
 pub type BlockShares = [u8; 72];
@@ -44,14 +52,13 @@ pub fn linear_map<T: ShareMap, M: Machine>(machine: &mut M, s: ShareCount, l: &m
     record_shares(machine, T::BYTES, s, l);
 }
 
-// The round number r is added to share 0 of the key.
-pub fn round_number<M: Machine>(machine: &mut M, s: ShareCount, r: u8, key: &mut KeyShares)
-    requires in_range { (0 < s.count) × (r < 32) }
-    requires ready { Ready (add_round_number size80 r (sharing 10 s.count key.old)) (M.state machine.old) }
-    ensures went { Went (add_round_number size80 r (sharing 10 s.count key.old)) (M.state machine.old)
-        (sharing 10 s.count key.new) (M.state machine.new) }
-    ensures kept_past { KeptPast 10 s.count key.old key.new }
+// The number of round r is added to share 0 of the key.
+pub fn round_number<M: Machine>(machine: &mut M, s: NonZeroCount, r: Round, key: &mut KeyShares)
+    requires { Ready (add_round_number size80 r.number (sharing 10 s.shares.count key.old)) (M.state machine.old) }
+    ensures went { Went (add_round_number size80 r.number (sharing 10 s.shares.count key.old)) (M.state machine.old)
+        (sharing 10 s.shares.count key.new) (M.state machine.new) }
+    ensures kept_past { KeptPast 10 s.shares.count key.old key.new }
 {
-    layers::add_round_number(s, r, &mut *key);
+    layers::add_round_number(s.shares, r, &mut *key);
     record_nibbles(machine, 10, 0, 3, 5, key);
 }

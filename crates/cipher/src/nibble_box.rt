@@ -9,10 +9,9 @@ ghost use Rattle.steps.specs.Machine.{Went};
 ghost use Rattle.steps.specs.ShareBytes.{sharing, KeptPast};
 ghost use Rattle.present.specs.Masked.{masked_nibble, masked_sbox_layer};
 
-use crate::linear_parts::BlockShares;
+use crate::linear_parts::{BlockShares, NonZeroCount};
 use decomposition::{Record, read};
 use refusal::{Refusal, refuse_unless};
-use steps::ShareCount;
 use steps::machine::Machine;
 
 // The S-box of a record of four bits in and four out.
@@ -26,7 +25,7 @@ pub struct NibbleBox<'a> {
 impl<'a> NibbleBox<'a> {
     ghost use Rattle.cipher.specs.Rounds.{sbox_of, Prepared};
 
-    // The S-box of a record of the table. Refused: as Read; 1 width 6; 6 another table.
+    // The S-box of a record of the table. Refused: as Read; 1 width 6; 6 another table. The last is no test of its own: its other arm hands back the box.
     pub fn of(table: &[u8; 16], bytes: &'a [u8]) -> Result<NibbleBox<'a>, Refusal>
         ensures outcome { report (λ _. []) result ≡ record_tests table.now bytes.now }
         ensures coefficients { IfOk result (λ b. b.record.coefficients.now ≡ coefficients_of bytes.now) }
@@ -43,34 +42,33 @@ impl<'a> NibbleBox<'a> {
     pub fn substitute<M: Machine>(
         &self,
         machine: &mut M,
-        s: ShareCount,
+        s: NonZeroCount,
         w: usize,
         k: usize,
         l: &mut [u8],
     )
-        requires in_bounds { (0 < s.count) × (k < 2 * w) × (w * s.count ≤ length l.old) }
-        requires prepared { Prepared (masked_nibble (sbox_of self.now s.count) k (sharing w s.count l.old)) (M.state machine.old) }
-        ensures went { Went (masked_nibble (sbox_of self.now s.count) k (sharing w s.count l.old)) (M.state machine.old)
-            (sharing w s.count l.new) (M.state machine.new) }
-        ensures kept_past { KeptPast w s.count l.old l.new }
+        requires in_bounds { (k < 2 * w) × (w * s.shares.count ≤ length l.old) }
+        requires prepared { Prepared (masked_nibble (sbox_of self.now s.shares.count) k (sharing w s.shares.count l.old)) (M.state machine.old) }
+        ensures went { Went (masked_nibble (sbox_of self.now s.shares.count) k (sharing w s.shares.count l.old)) (M.state machine.old)
+            (sharing w s.shares.count l.new) (M.state machine.new) }
+        ensures kept_past { KeptPast w s.shares.count l.old l.new }
     {
-        let x = layers::column(w, s, k, l);
-        let y = sbox::run(machine, s, self.record, &x);
-        layers::replace_column(w, s, k, &y, l);
+        let x = layers::column(w, s.shares, k, l);
+        let y = sbox::run(machine, s.shares, self.record, &x);
+        layers::replace_column(w, s.shares, k, &y, l);
     }
 
     // The S-box on nibbles 0 to 15 of a block. Bytes past the shares in use are kept.
     pub fn substitute_block<M: Machine>(
         &self,
         machine: &mut M,
-        s: ShareCount,
+        s: NonZeroCount,
         block: &mut BlockShares,
     )
-        requires some { 0 < s.count }
-        requires prepared { Prepared (masked_sbox_layer (sbox_of self.now s.count) (sharing 8 s.count block.old)) (M.state machine.old) }
-        ensures went { Went (masked_sbox_layer (sbox_of self.now s.count) (sharing 8 s.count block.old)) (M.state machine.old)
-            (sharing 8 s.count block.new) (M.state machine.new) }
-        ensures kept_past { KeptPast 8 s.count block.old block.new }
+        requires { Prepared (masked_sbox_layer (sbox_of self.now s.shares.count) (sharing 8 s.shares.count block.old)) (M.state machine.old) }
+        ensures went { Went (masked_sbox_layer (sbox_of self.now s.shares.count) (sharing 8 s.shares.count block.old)) (M.state machine.old)
+            (sharing 8 s.shares.count block.new) (M.state machine.new) }
+        ensures kept_past { KeptPast 8 s.shares.count block.old block.new }
     {
         for k in 0..16 {
             self.substitute(machine, s, 8, k, block);

@@ -1,27 +1,28 @@
 // The operations Open and Watch open.
 ghost use Rattle.std.specs.Prelude.{◌≡◌, [], length, IfOk};
+ghost use Rattle.std.proofs.Common.{rules};
 ghost use Rattle.refusal.specs.Outcome.{Answered};
 ghost use Rattle.refusal.specs.Refusals.{report};
 ghost use Rattle.steps.specs.Taken.{handed};
 ghost use Rattle.decomposition.specs.Record.{coefficients_of};
 ghost use Rattle.present.specs.Present.{table};
 ghost use Rattle.present.specs.Decrypt.{inverse_table};
-ghost use Rattle.cipher.specs.Ciphering.{Realizes};
+ghost use Rattle.cipher.specs.Ciphering.{Realizes, on_bytes};
 ghost use Rattle.cipher.specs.OpenOperations.{both_tests, opened, open_outcome, open_output, watch_open_outcome, watch_open_output};
 
-use crate::calling::{Ciphering, call, watch};
 use crate::enciphering::Sealing;
-use crate::figures::{open_draw_count, open_step_count};
+use crate::figures::open_counts;
 use crate::key_schedule::run_key;
 use crate::linear_parts::{BlockShares, add_round_key};
 use crate::nibble_box::NibbleBox;
 use crate::rounds::RoundState;
 use refusal::Refusal;
+use steps::calling::{Ciphering, call, watch};
 use steps::machine::Machine;
 use steps::{ShareCount, Taken};
 
 // The table of the inverse S-box.
-const INVERSE: [u8; 16] = [5, 14, 15, 8, 12, 1, 2, 13, 11, 4, 6, 3, 0, 7, 9, 10];
+pub const INVERSE: [u8; 16] = [5, 14, 15, 8, 12, 1, 2, 13, 11, 4, 6, 3, 0, 7, 9, 10];
 
 // Masked decryption, by a record of the table, for the key, and one of the inverse table.
 #[derive(Clone, Copy)]
@@ -45,15 +46,27 @@ impl<'a> Opening<'a> {
     }
 }
 
-impl Ciphering for Opening<'_> {
-    ghost cipher = { λ x. opened x.sealing.nibble_box.record.coefficients.now x.inverse.record.coefficients.now };
+impl Ciphering<4, 72> for Opening<'_> {
+    ghost KEY = { 10 };
+
+    ghost BLOCK = { 8 };
+
+    ghost cipher = { λ x. on_bytes (opened x.sealing.nibble_box.record.coefficients.now x.inverse.record.coefficients.now) };
+
+    fn key_bytes(&self) -> usize {
+        10
+    }
+
+    fn block_bytes(&self) -> usize {
+        8
+    }
 
     fn draw_count(&self, s: ShareCount) -> usize {
-        open_draw_count(s.count)
+        open_counts(s).random
     }
 
     fn step_count(&self, s: ShareCount) -> u32 {
-        open_step_count(s.count as u32)
+        open_counts(s).steps
     }
 
     fn run<M: Machine>(
@@ -65,11 +78,18 @@ impl Ciphering for Opening<'_> {
     ) -> BlockShares {
         let mut loaded = RoundState::load(s, key, block);
         let state = &mut loaded;
-        run_key(machine, &self.sealing.nibble_box, s, &mut state.key);
+        run_key(
+            machine,
+            &self.sealing.nibble_box,
+            state.count,
+            &mut state.key,
+        );
         add_round_key(machine, s, &state.key, &mut state.block);
         state.undo_rounds(machine, &self.inverse);
         state.block
     }
+
+    ghost sizes = { Prim.search rules };
 }
 
 // The masked opening of s shares, 1 to 9, of a key and of a block, by a record of PRESENT's S-box and one of its inverse. `out` takes the shares of the

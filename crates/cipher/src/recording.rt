@@ -1,4 +1,4 @@
-// The recording of nibbles.
+// The recording of nibbles. A step names its share by number, so a share is that number and a place in the bytes of all, and no slice of its own.
 ghost use Rattle.std.specs.Prelude.{◌+◌, ◌*◌, ◌<◌, ◌≤◌, length};
 ghost use Rattle.steps.specs.Machine.{Ready, Went};
 ghost use Rattle.steps.specs.Program.{one, note};

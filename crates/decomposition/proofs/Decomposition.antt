@@ -1,14 +1,16 @@
 -- THE decomposition is the canonical solution of the equations over bits; there is at most one, and there is one whenever any p meets the table.
-use mathlib.Core.List.{List, [], ◌∷◌}
+use mathlib.Core.List.{List, map}
 use mathlib.Core.Logic.{◌⊎◌, inl, inr}
 use mathlib.Core.Path.{◌≡◌, refl, sym, subst, ap, ◌∙◌}
-use Prim.Native.Nat.{ℕ, zero, suc, ◌+◌, ◌*◌, ◌/◌, ◌%◌, ◌^◌, ◌<◌}
+use Prim.Native.Nat.{ℕ, suc, ◌+◌, ◌*◌, ◌/◌, ◌%◌, ◌^◌, ◌<◌}
 use native.Mathlib.Decide.{dec_lt}
 use native.Mathlib.Nat.{div-lt_iff_lt-mul, mod-eq_of_lt, mod-lt, zero-mod}
 use native.Mathlib.Omega.{arith}
 use lib.ListN.{length, get_or, get_or-eq_default, length-replicate, replicate}
 use lib.Pow.{pow_pos}
 use lib.Seq.{ext_get_or}
+use Rattle.std.specs.List.{range_with_len}
+use Rattle.std.proofs.lemmas.List.FromFn.{get_or-map-range_with_len, length-map-range_with_len}
 use Rattle.xor.specs.Sum.{Small as SmallList}
 use Rattle.field.specs.Mul.{mul}
 use Rattle.field.specs.Power.{Field}
@@ -33,22 +35,6 @@ use Rattle.decomposition.specs.declared.layouts.Layout.{Layout}
 use Rattle.decomposition.proofs.Columns.{column_small, equation_column, equation_right, equation_small, form_equation, form_small}
 
 -- ---- lists of factors
-
--- the list f 0, .. f (k - 1)
-pub list_of : ℕ → (ℕ → ℕ) → List ℕ
-list_of zero f = []
-list_of (suc k) f = f 0 ∷ list_of k (λ j. f (suc j))
-
-pub list_of_length : (k : ℕ) (f : ℕ → ℕ) → length (list_of k f) ≡ k
-unfolding list_of
-list_of_length zero f = refl
-list_of_length (suc k) f = ap suc (list_of_length k (λ j. f (suc j)))
-
-pub list_of_at : (k : ℕ) (f : ℕ → ℕ) (j : ℕ) → j < k → get_or (list_of k f) j 0 ≡ f j
-unfolding list_of
-list_of_at zero f j h = absurd (omega arith)
-list_of_at (suc k) f zero h = refl
-list_of_at (suc k) f (suc j) h = list_of_at k (λ i. f (suc i)) j (omega arith)
 
 -- entries below the length are elements, and so is what is read past the end
 pub small_list : (n : ℕ) (l : List ℕ) → ((k : ℕ) → k < length l → get_or l k 0 < 2 ^ n) → SmallList n l
@@ -136,9 +122,10 @@ module _ {L : Layout} (z : Sizes L) (table basis : List ℕ) (sb : SmallList L.w
             ⊎ Inconsistent bits (R * L.outputs) (bit_system L table basis) (L.unknowns * L.width)
             → ((p : List ℕ) × Decomposition L table basis p) ⊎ NoDecomposition L table basis
         go (inl x) =
-            let p : List ℕ = list_of L.unknowns x.0 in
-            let e : length p ≡ L.unknowns = list_of_length L.unknowns x.0 in
-            let at : (k : ℕ) → k < L.unknowns → get_or p k 0 ≡ x.0 k = list_of_at L.unknowns x.0 in
+            let p : List ℕ = map x.0 (range_with_len 0 L.unknowns) in
+            let e : length p ≡ L.unknowns = length-map-range_with_len x.0 0 L.unknowns in
+            let at : (k : ℕ) → k < L.unknowns → get_or p k 0 ≡ x.0 k =
+            λ k l. get_or-map-range_with_len x.0 0 L.unknowns k k 0 l (omega arith) in
             let np : 0 < L.width = omega (arith, z.some_outputs, z.few_outputs) in
             inl (
               p,

@@ -7,7 +7,7 @@ use native.Mathlib.Omega.{arith}
 use lib.Dec.{leb}
 use lib.ListN.{get_or, length}
 use borrow.Author.Tests.{ne_eqb, eq-eqb, le-leb, lt-leb}
-use Rattle.std.specs.Prelude.{Some, None}
+use Rattle.std.specs.Prelude.{MatchOption, Option, Some, None}
 use Rattle.refusal.specs.Large.{found}
 use Rattle.refusal.proofs.Large.{found_one, found_none, found_some, found_nothing}
 use Rattle.refusal.specs.Outcome.{Outcome, refused, test}
@@ -29,15 +29,15 @@ no_difference f [] h = refl
 no_difference f (y ∷ l) h = rw (eq-eqb (f 0) y (h 0 (omega arith))) (ap suc (no_difference (λ x. f (suc x)) l (λ x g. h (suc x) (omega arith))))
 
 -- so a search of it answers
-pub found_difference : (f : ℕ → ℕ) (table : List ℕ) (x : ℕ) → x < length table → ((k : ℕ) → k < x → f k ≡ get_or table k 0)
-    → (f x ≡ get_or table x 0 → ⊥) → Some x ≡ found (first_difference f table) (length table)
-found_difference f table x h before n =
-    let e = difference_at f table x h before n in
-    ap Some (sym e) ∙ sym (found_one (rw e h))
-
-pub none_different : (f : ℕ → ℕ) (table : List ℕ) → ((k : ℕ) → k < length table → f k ≡ get_or table k 0)
-    → None ≡ found (first_difference f table) (length table)
-none_different f table h = sym (found_none (omega (arith, no_difference f table h)))
+pub difference_found : (f : ℕ → ℕ) (table : List ℕ) {n : ℕ} (r : Option ℕ) → length table ≡ n
+    → MatchOption r ((k : ℕ) → 0 ≤ k → k < n → f k ≡ get_or table k 0)
+    (λ x. (0 ≤ x) × (x < n) × (f x ≡ get_or table x 0 → ⊥) × ((k : ℕ) → 0 ≤ k → k < x → f k ≡ get_or table k 0))
+    → r ≡ found (first_difference f table) (length table)
+difference_found f table None e h = sym (found_none (omega (arith, no_difference f table (λ k l. h k (omega arith) (omega arith)))))
+difference_found f table (Some x) e h =
+    let within : x < length table = omega (arith, h.1, e) in
+    let at = difference_at f table x within (λ k l. h.3 k (omega arith) l) h.2 in
+    ap Some (sym at) ∙ sym (found_one (rw at within))
 
 pub difference_none : (f : ℕ → ℕ) (table : List ℕ) → length table ≤ first_difference f table → (x : ℕ) → x < length table → f x ≡ get_or table x 0
 unfolding first_difference

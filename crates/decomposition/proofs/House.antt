@@ -1,7 +1,7 @@
 -- THE HOUSE BASIS decomposes every table of width 4: the columns of its 16 equations have a right inverse, which is tested by computation. So House fit
 -- ends as Fit does, and has no refusal but those of its tests.
 use mathlib.Core.Bool.{Bool, true, false, cond}
-use mathlib.Core.List.{List, [], ◌∷◌, flatten}
+use mathlib.Core.List.{List, [], ◌∷◌, flatten, map}
 use mathlib.Core.Logic.{◌⊎◌, inl, inr}
 use mathlib.Core.Path.{◌≡◌, refl, sym, ap, ap₂, subst, ◌∙◌}
 use Prim.Native.Nat.{ℕ, ◌+◌, ◌*◌, ◌/◌, ◌%◌, ◌^◌, ◌<◌}
@@ -32,7 +32,9 @@ use Rattle.decomposition.specs.Record.{record_of}
 use Rattle.decomposition.specs.Solution.{candidates, solution, solution_number, solvable}
 use Rattle.decomposition.specs.declared.layouts.Layout.{Layout}
 use Rattle.decomposition.proofs.Columns.{column_small, form_columns, form_small}
-use Rattle.decomposition.proofs.Decomposition.{list_of, list_of_at, list_of_length, small_list}
+use Rattle.std.specs.List.{range_with_len}
+use Rattle.std.proofs.lemmas.List.FromFn.{get_or-map-range_with_len, length-map-range_with_len}
+use Rattle.decomposition.proofs.Decomposition.{small_list}
 use Rattle.decomposition.proofs.Ready.{fit_at_pair, passed_at}
 use Rattle.decomposition.proofs.Sizes.{same_pair, sizes}
 use Rattle.decomposition.proofs.Tests.{fit_lengths_lem}
@@ -51,15 +53,15 @@ module _ {L : Layout} (z : Sizes L) (same : L.outputs ≡ L.width) (basis : List
   unknown k = dot (scalars L.width) (2 ^ L.width) (R k) (λ y. get_or table y 0)
 
   p : List ℕ
-  p = list_of L.unknowns unknown
+  p = map unknown (range_with_len 0 L.unknowns)
 
   elements : Small L.width p
   unfolding p unknown
   elements =
-      let e = list_of_length L.unknowns unknown in
+      let e = length-map-range_with_len unknown 0 L.unknowns in
       small_list L.width p
       (λ k l. let h : k < L.unknowns = omega (arith, e) in
-      rw (list_of_at L.unknowns unknown k h) (dot_below (laws_of z.width) (2 ^ L.width) (i.elements.at k h) entries))
+      rw (get_or-map-range_with_len unknown 0 L.unknowns k k 0 h (omega arith)) (dot_below (laws_of z.width) (2 ^ L.width) (i.elements.at k h) entries))
 
   -- every table is met
   pub inverse_reaches : (q : List ℕ) × Computes L table basis q
@@ -67,13 +69,13 @@ module _ {L : Layout} (z : Sizes L) (same : L.outputs ≡ L.width) (basis : List
   inverse_reaches = (
     p,
     record {
-      unknowns = list_of_length L.unknowns unknown;
+      unknowns = length-map-range_with_len unknown 0 L.unknowns;
       elements = elements;
       equal = λ x h.
           mod-eq_of_lt (subst (λ (m : ℕ). form L basis p x < 2 ^ m) (sym same) (form_small z basis sb x h p elements))
           ∙ sym (form_columns z basis sb x h p elements)
           ∙ dot_agree (scalars L.width) L.unknowns {r = unknown_column L basis x} {s = unknown_column L basis x} {d = λ k. get_or p k 0} {e = unknown}
-          (record { at = λ k l. refl }) (record { at = λ k l. list_of_at L.unknowns unknown k l })
+          (record { at = λ k l. refl }) (record { at = λ k l. get_or-map-range_with_len unknown 0 L.unknowns k k 0 l (omega arith) })
           ∙ inverse_solves (laws_of z.width) (2 ^ L.width) L.unknowns (unknown_column L basis) R (λ y. get_or table y 0)
           (record { at = λ y l. record { at = λ k g. column_small z basis sb y l k } }) i entries x h;
     },

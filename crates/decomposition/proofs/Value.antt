@@ -1,12 +1,15 @@
 -- Values of polynomials as products of a row and a column.
-use mathlib.Core.List.{List, ◌∷◌, map, []}
-use mathlib.Core.Path.{◌≡◌, refl, sym, ap, ◌∙◌}
+use mathlib.Core.List.{List, ◌∷◌, ◌++◌, map, []}
+use mathlib.Core.Path.{◌≡◌, refl, sym, ap, ap₂, ◌∙◌}
 use Prim.Native.Nat.{ℕ, zero, suc, ◌+◌, ◌*◌, ◌<◌, ◌≤◌}
+use native.Mathlib.Nat.{add-zero, zero-add}
 use native.Mathlib.Omega.{arith}
 use lib.ListN.{length, get_or, drop, take, length-drop}
 use lib.Seq.{get_or-take, get_or-drop, length-take-le}
-use Rattle.std.specs.List.{fold, zip}
+use Rattle.std.specs.List.{fold, range_with_len, zip}
+use Rattle.std.proofs.lemmas.List.Sums.{fold_push}
 use Rattle.std.specs.Prelude.{bit_xor}
+use Rattle.xor.specs.Sum.{sum_of}
 use Rattle.xor.specs.Xor.{◌⊕◌}
 use Rattle.xor.proofs.Xor.{⊕-is, ⊕-assoc, ⊕-zero, zero_⊕}
 use Rattle.field.specs.Mul.{mul}
@@ -75,6 +78,18 @@ value_fold L l i x row size q h e =
     let counted : length cs ≡ L.exponents = length-take-le L.exponents (drop (i * L.exponents) l) (omega (arith, length-drop (i * L.exponents) l)) in
     ap (λ (k : ℕ). fold (λ s p. bit_xor s (mul L.width p.0 p.1)) 0 (zip (take k (drop (i * L.exponents) l)) row)) q
     ∙ fold_combination L.width 0 cs row ∙ zero_⊕ _ ∙ ap (combination L.width cs) (ap (λ (k : ℕ). take k row) counted ∙ e)
+
+-- a sum as one pass over the numbers below k makes it
+range_more : (a k : ℕ) → range_with_len a (suc k) ≡ range_with_len a k ++ (a + k) ∷ []
+range_more a zero = ap (λ (b : ℕ). b ∷ []) (sym (add-zero a))
+range_more a (suc k) = ap (λ (l : List ℕ). a ∷ l) (range_more (a + 1) k ∙ ap (λ (b : ℕ). range_with_len (a + 1) k ++ b ∷ []) (omega arith))
+
+pub fold_sum : (f : ℕ → ℕ) (k : ℕ) → fold (λ s i. bit_xor s (f i)) 0 (range_with_len 0 k) ≡ sum_of k f
+unfolding sum_of
+fold_sum f zero = refl
+fold_sum f (suc k) =
+    ap (fold (λ s i. bit_xor s (f i)) 0) (range_more 0 k) ∙ fold_push (λ s i. bit_xor s (f i)) 0 (range_with_len 0 k) (0 + k)
+    ∙ ⊕-is _ _ ∙ ap₂ ◌⊕◌ (fold_sum f k) (ap f (zero-add k))
 
 -- entry j of such a row
 pub power_at : {L : Layout} → Sizes L → (x : ℕ) (row : List ℕ) → take L.exponents row ≡ map (pow L.width x) (exponents L.width) → (j : ℕ) → j < L.exponents

@@ -1,6 +1,5 @@
 -- The operation Check.
 use Rattle.std.specs.Prelude.{cond, List, [], ◌∷◌, ℕ, suc, ◌%◌, leb, eqb, length}
-use Rattle.xor.specs.Sum.{sum_of}
 use Rattle.refusal.specs.Outcome.{Outcome, done, test, and_then}
 use Rattle.refusal.specs.Large.{test_below}
 use Rattle.field.specs.Mul.{mul}
@@ -12,9 +11,9 @@ use Rattle.decomposition.specs.declared.layouts.Layout.{Layout}
 abbrev pub form_in : Layout → List ℕ → ℕ → ℕ
 form_in L coefficients = form L (basis_of L coefficients) (solution_of L coefficients)
 
--- the sum of the first k products p1·q1, ..
-abbrev pub products_in : Layout → List ℕ → ℕ → ℕ → ℕ
-products_in L coefficients x k = sum_of k (λ i. mul L.width (value_of L (solution_of L coefficients) i x) (value_of L (basis_of L coefficients) i x))
+-- product i of these, p(i+1)·q(i+1)
+abbrev pub product_in : Layout → List ℕ → ℕ → ℕ → ℕ
+product_in L coefficients x i = mul L.width (value_of L (solution_of L coefficients) i x) (value_of L (basis_of L coefficients) i x)
 
 -- the form of a record at x
 abbrev pub record_form : Layout → List ℕ → ℕ → ℕ

@@ -1,5 +1,5 @@
 -- The operations Fit and House fit.
-use Rattle.std.specs.Prelude.{Bool, true, false, ◌&&◌, List, [], ◌∷◌, ◌≡◌, ℕ, eqb, length, replicate}
+use Rattle.std.specs.Prelude.{Bool, ◌&&◌, List, [], ◌∷◌, ◌≡◌, ℕ, Result, MatchResult, eqb, length, replicate}
 use Rattle.xor.specs.Sum.{Small}
 use Rattle.refusal.specs.Outcome.{Outcome, done, refused, test, and_then, written}
 use Rattle.refusal.specs.Large.{test_below}
@@ -127,7 +127,6 @@ IsFit n m c e = AfterTests (layout n m) c e (all_tests n m c)
 
 -- ---- inner contracts
 
--- what the solution of the equations comes to. true: p' is THE decomposition. false: no p meets the table, and nothing is written
-abbrev pub Decomposed : Layout → List ℕ → List ℕ → List ℕ → List ℕ → Bool → Type 0
-Decomposed L table basis p p' true = Decomposition L table basis p'
-Decomposed L table basis p p' false = NoDecomposition L table basis × (p' ≡ p)
+-- what the solution of the equations comes to: p' is THE decomposition; or it is an error, no p meets the table, and nothing is written
+abbrev pub Decomposed : {E : Type 0} → Layout → List ℕ → List ℕ → List ℕ → List ℕ → Result (Unit {0}) E → Type 0
+Decomposed L table basis p p' answer = MatchResult answer (λ _. Decomposition L table basis p') (λ _. NoDecomposition L table basis × (p' ≡ p))

@@ -1,4 +1,4 @@
-// The equations of Fit at equal widths, in its work: a row for each input.
+// The equations of Fit at equal widths, in its work: a row for each input. A place in the work is where a row, or a polynomial's part of it, begins.
 ghost use Rattle.std.specs.Prelude.{◌≡◌, ◌+◌, ◌*◌, ◌<◌, ◌≤◌, length};
 ghost use Rattle.linear.specs.Scalars.{scalars};
 ghost use Rattle.linear.specs.Row.{times};
@@ -7,7 +7,7 @@ ghost use Rattle.decomposition.specs.Form.{monomial};
 ghost use Rattle.decomposition.specs.Equations.{equation, Rows};
 
 use crate::polynomial::Powers;
-use crate::problems::Problem;
+use crate::problems::{Input, Problem};
 
 // Writes f times the powers from a on.
 fn multiple(powers: &Powers, work: &mut [u8], a: usize, f: u8)
@@ -19,17 +19,18 @@ fn multiple(powers: &Powers, work: &mut [u8], a: usize, f: u8)
     }
 }
 
-// Writes an equation from a on, at the input whose powers are given; its right side is v.
-fn equation_at(problem: &Problem, powers: &Powers, work: &mut [u8], a: usize, v: u8)
-    requires same_layout { powers.now.layout ≡ problem.now.layout }
-    requires room { a + (problem.now.layout.unknowns + 1) ≤ length work.old }
-    ensures { Overwritten work.old work.new a (problem.now.layout.unknowns + 1) (equation problem.now.layout problem.now.basis.now powers.now.x v) }
+// Writes the equation at an input from a on; its right side is v.
+fn equation_at(input: &Input, work: &mut [u8], a: usize, v: u8)
+    requires { a + (input.now.problem.layout.unknowns + 1) ≤ length work.old }
+    ensures { Overwritten work.old work.new a (input.now.problem.layout.unknowns + 1)
+        (equation input.now.problem.layout input.now.problem.basis.now input.now.powers.x v) }
 {
-    for i in 0..problem.layout.terms {
-        let f = problem.factor(i, powers);
-        multiple(powers, work, a + i * problem.layout.exponents, f);
+    let layout = input.problem.layout;
+    for i in 0..layout.terms {
+        let f = input.factor(i);
+        multiple(&input.powers, work, a + i * layout.exponents, f);
     }
-    work[a + problem.layout.unknowns] = v;
+    work[a + layout.unknowns] = v;
 }
 
 // Writes the equations.
@@ -39,7 +40,6 @@ pub fn equations(problem: &Problem, work: &mut [u8])
 {
     let width = problem.layout.unknowns + 1;
     for (x, v) in problem.table.iter().enumerate() {
-        let powers = Powers::of(problem.layout, x as u8);
-        equation_at(problem, &powers, work, x * width, *v);
+        equation_at(&problem.at(x as u8), work, x * width, *v);
     }
 }

@@ -34,18 +34,18 @@ fn find(problem: &Problem, work: &mut [u8], out: &mut [u8]) -> Result<(), Refusa
     let start = HEAD + layout.basis;
     let solved = decompose(problem, work, &mut out[start..]);
     work.fill(0);
-    refuse_unless(solved, Refusal::Undecomposable)?;
+    solved.or(Err(Refusal::Undecomposable))?;
     write_head(layout.width, layout.outputs, problem.basis, out);
     Ok(())
 }
 
-// Whether table, basis, work and out, of so many bytes, have the lengths of the layout.
-#[tactic(auto, unfolding(crate::specs::Fit::fit_lengths))]
+// Whether table, basis, work and out, of so many bytes, have the lengths of the layout: four slices of a caller, tested as one.
+#[tactic(auto, using(crate::proofs::Whole::sizes_of), unfolding(crate::specs::Fit::fit_lengths))]
 fn lengths_fit(layout: Layout, table: usize, basis: usize, work: usize, out: usize) -> bool
-    requires { Sizes layout }
+    requires { ∥ Sizes layout ∥₁ }
     ensures { result ≡ fit_lengths layout table basis work out }
 {
-    table == layout.inputs
+    table == layout.inputs as usize
         && basis == layout.basis
         && work == layout.work
         && out == HEAD + layout.coefficients
@@ -59,7 +59,7 @@ fn fit_tests<'a>(
     work: usize,
     out: usize,
 ) -> Result<Problem<'a>, Refusal>
-    requires { Sizes layout }
+    requires { ∥ Sizes layout ∥₁ }
     ensures outcome { report (λ _. []) result ≡ fit_tests layout table.now basis.now work out }
     ensures problem { IfOk result (λ p. (p.layout ≡ layout) × (p.table.now ≡ table.now) × (p.basis.now ≡ basis.now)) }
 {
@@ -67,8 +67,8 @@ fn fit_tests<'a>(
         lengths_fit(layout, table.len(), basis.len(), work, out),
         Refusal::Length,
     )?;
-    refuse_large(layout.entries as u8, table, 0)?;
-    refuse_large(layout.inputs as u8, basis, table.len())?;
+    refuse_large(layout.entries, table, 0)?;
+    refuse_large(layout.inputs, basis, table.len())?;
     Ok(Problem {
         layout,
         table,

@@ -16,16 +16,18 @@ pub const SHORT_HEAD: usize = 6;
 // The bytes of an equation over bits, at the one pair of other widths. The solver is told the number and no variable: it adds whole rows.
 pub const ROW: usize = 43;
 
-// How the coefficients of a record and the work of Fit lie in bytes.
+// How the coefficients of a record and the work of Fit lie in bytes. A constant calls no function, so the sizes that follow from others are written out;
+// `Layout::of` shows that they are those of the definition. That they fit together (`Sizes`) is no ghost field: the definition `layout` gives a
+// `Layout` to any two numbers, and one of this type could not be made where they are no pair.
 #[derive(Clone, Copy)]
 pub struct Layout {
     pub width: u32,
     // the output bits of the table
     pub outputs: u32,
-    // 2 ^ width
-    pub inputs: usize,
-    // 2 ^ outputs
-    pub entries: usize,
+    // 2 ^ width: elements are below it, and there are as many inputs
+    pub inputs: u8,
+    // 2 ^ outputs: entries of the table are below it
+    pub entries: u8,
     // the coefficients of a polynomial
     pub exponents: usize,
     // the polynomials p1 to pt; the basis has one less

@@ -1,5 +1,5 @@
 // Decompositions of tables. The operations are `reading::read` and `checking::check` for their records, `fitting::fit` and `fitting::house_fit` to find them.
-#![tactic(auto)]
+#![tactic(auto, using(crate::proofs::Whole::sizes_of))]
 
 mod bit_equations;
 pub mod checking;

@@ -8,7 +8,8 @@ ghost use Rattle.decomposition.specs.Form.{value_of};
 
 use crate::layouts::Layout;
 
-// The powers of an input x at a layout, one for each listed exponent.
+// The powers of an input x at a layout, one for each listed exponent. The row has room for the longest list: of another length at each layout it would be no
+// array. It holds the layout by itself, as a value that is handed back.
 #[derive(Clone, Copy)]
 pub struct Powers {
     pub layout: Layout,
@@ -22,7 +23,7 @@ pub struct Powers {
 impl Powers {
     // The powers of x.
     pub fn of(layout: Layout, x: u8) -> Powers
-        requires sizes { Sizes layout }
+        requires sizes { ∥ Sizes layout ∥₁ }
         requires input { x < layout.inputs }
         ensures { (result.layout ≡ layout) × (result.x ≡ x) }
     {
@@ -59,7 +60,7 @@ fn next_power(width: u32, x: u8, e: u8, power: u8, next: u8) -> u8
     }
 }
 
-// Writes the powers of x, one for each listed exponent.
+// Writes the powers of x, one for each listed exponent, each made of the one before.
 fn write_powers(width: u32, x: u8, out: &mut [u8])
     requires narrow { Narrow width }
     requires x_bound { (x < 2 ^ width) × (length out.old ≡ length (exponents width)) }
@@ -67,10 +68,9 @@ fn write_powers(width: u32, x: u8, out: &mut [u8])
 {
     let mut e: u8 = 0;
     let mut power: u8 = 1;
-    for (j, place) in out.iter_mut().enumerate() {
-        let next = field::exponent(width, j);
-        power = next_power(width, x, e, power, next);
-        *place = power;
-        e = next;
+    for (j, next) in field::exponents(width).iter().enumerate() {
+        power = next_power(width, x, e, power, *next);
+        out[j] = power;
+        e = *next;
     }
 }

@@ -21,13 +21,34 @@ pub struct Problem<'a> {
 }
 
 impl<'a> Problem<'a> {
-    // What polynomial i is multiplied with at the input whose powers are given: the polynomial of the basis, and 1 for the last.
-    pub fn factor(&self, i: usize, powers: &Powers) -> u8
-        requires { (powers.now.layout ≡ self.now.layout) × (i < self.now.layout.terms) }
-        ensures { result ≡ factor self.now.layout self.now.basis.now i powers.now.x }
+    // The problem at input x.
+    pub fn at(&self, x: u8) -> Input<'a>
+        requires { x < self.now.layout.inputs }
+        ensures { (result.problem ≡ self.now) × (result.powers.x ≡ x) }
     {
-        if i + 1 < self.layout.terms {
-            powers.value(self.basis, i)
+        Input {
+            problem: *self,
+            powers: Powers::of(self.layout, x),
+        }
+    }
+}
+
+// A problem at one input, with the input's powers.
+#[derive(Clone, Copy)]
+pub struct Input<'a> {
+    pub problem: Problem<'a>,
+    pub powers: Powers,
+    pub ghost same_layout: { powers.layout ≡ problem.layout },
+}
+
+impl Input<'_> {
+    // What polynomial i is multiplied with: the polynomial of the basis, and 1 for the last.
+    pub fn factor(&self, i: usize) -> u8
+        requires { i < self.now.problem.layout.terms }
+        ensures { result ≡ factor self.now.problem.layout self.now.problem.basis.now i self.now.powers.x }
+    {
+        if i + 1 < self.problem.layout.terms {
+            self.powers.value(self.problem.basis, i)
         } else {
             1
         }

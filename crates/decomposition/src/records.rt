@@ -1,9 +1,9 @@
 // Records that Read accepted, and what they compute.
-ghost use Rattle.std.specs.Prelude.{◌≡◌, ◌-◌, ◌<◌, ◌%◌, length};
+ghost use Rattle.std.specs.Prelude.{◌≡◌, ◌+◌, ◌<◌, ◌%◌, length};
 ghost use Rattle.refusal.specs.Large.{found};
 ghost use Rattle.decomposition.specs.Layout.{Sizes};
 ghost use Rattle.decomposition.specs.Record.{basis_of, solution_of};
-ghost use Rattle.decomposition.specs.Check.{form_in, products_in, first_difference};
+ghost use Rattle.decomposition.specs.Check.{form_in, product_in, first_difference};
 
 use crate::layouts::Layout;
 use crate::polynomial::Powers;
@@ -33,18 +33,14 @@ impl<'a> Record<'a> {
         &self.coefficients[self.layout.basis..]
     }
 
-    // p1·q1 + .. + p(t-1)·q(t-1) at an input, whose powers are given.
-    fn products(&self, powers: &Powers) -> u8
-        requires { powers.now.layout ≡ self.now.layout }
-        ensures { result ≡ products_in self.now.layout self.now.coefficients.now powers.now.x (self.now.layout.terms - 1) }
+    // The product of polynomial i of the solution and polynomial i of the basis, at an input whose powers are given.
+    fn product(&self, powers: &Powers, i: usize) -> u8
+        requires { (powers.now.layout ≡ self.now.layout) × (i + 1 < self.now.layout.terms) }
+        ensures { result ≡ product_in self.now.layout self.now.coefficients.now powers.now.x i }
     {
-        let mut sum = 0u8;
-        for i in 0..self.layout.terms - 1 {
-            let p = powers.value(self.solution(), i);
-            let q = powers.value(self.basis(), i);
-            sum = sum ^ field::mul(self.layout.width, p, q);
-        }
-        sum
+        let p = powers.value(self.solution(), i);
+        let q = powers.value(self.basis(), i);
+        field::mul(self.layout.width, p, q)
     }
 
     // The form p1·q1 + .. + p(t-1)·q(t-1) + pt at an input.
@@ -53,20 +49,17 @@ impl<'a> Record<'a> {
         ensures { result ≡ form_in self.now.layout self.now.coefficients.now x }
     {
         let powers = Powers::of(self.layout, x);
-        self.products(&powers) ^ powers.value(self.solution(), self.layout.terms - 1)
+        let last = self.layout.terms - 1;
+        let products = (0..last).fold(0, |sum, i| sum ^ self.product(&powers, i));
+        products ^ powers.value(self.solution(), last)
     }
 
-    // The first input at which the low output bits of the form and the table differ, if there is one.
+    // The first input at which the low output bits of the form and the table differ, if there is one: a place of the table, and an input of the form.
     pub fn first_difference(&self, table: &[u8]) -> Option<usize>
         requires { length table.now ≡ self.now.layout.inputs }
         ensures { result ≡ found (first_difference (λ x. form_in self.now.layout self.now.coefficients.now x % self.now.layout.entries) table.now) (length table.now) }
     {
-        for (x, y) in table.iter().enumerate() {
-            if self.form(x as u8) % self.layout.entries as u8 != *y {
-                return Some(x);
-            }
-        }
-        None
+        (0..table.len()).find(|x| self.form(*x as u8) % self.layout.entries != table[*x])
     }
 }
 

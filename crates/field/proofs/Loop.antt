@@ -6,9 +6,10 @@ use Prim.Native.Nat.{ℕ, ◌+◌, ◌*◌, ◌/◌, ◌%◌, ◌^◌, ◌<◌}
 use native.Mathlib.Nat.{zero-mul, one-mul, zero-add, add_comm, mod-lt, mod-one, div-one, mul-one, le_refl}
 use native.Mathlib.Nat as N
 use native.Mathlib.Numerals.{add-one}
+use native.Mathlib.Omega.{arith}
 use lib.Pow.{pow_pos, mod-pow-add, shr-shr}
 use Rattle.xor.specs.Xor.{◌⊕◌}
-use Rattle.xor.proofs.Xor.{bit_cases, ⊕-zero, ⊕-comm, top_bit}
+use Rattle.xor.proofs.Xor.{bit_cases, ⊕-zero, ⊕-comm, ⊕-half, top_bit}
 use Rattle.field.specs.Mul.{double, mul}
 use Rattle.field.specs.Loop.{doubled, AfterBits}
 use Rattle.field.proofs.Bilinear.{odd_lt, mul_⊕, mul_zero, sum_so_far}
@@ -47,6 +48,18 @@ next_bit {n} {a} {b} {k} h was =
       next_term = ap (double n) was.next_term ∙ sym (doubled_double n k a) ∙ ap (λ (e : ℕ). doubled n e a) (sym (add-one k));
       unread = ap (λ (r : ℕ). r / 2) was.unread ∙ shr-shr b k 1;
     }
+
+-- the same where the sum and the bits that are left stand one place higher, as they do in the code: the bit read is a factor 0 or 2
+pub next_bit_higher : {n a b k term : ℕ} (sum rest : ℕ) → k < n → AfterBits n a b k (sum / 2) term (rest / 2)
+    → AfterBits n a b (k + 1) ((sum ⊕ term * (rest / 2 % 2 * 2)) / 2) (double n term) (rest / 2 / 2)
+next_bit_higher {term = term} sum rest h was =
+    rw (⊕-half sum (term * (rest / 2 % 2 * 2)), half term (rest / 2 % 2)) (next_bit h was)
+  where
+    half : (t d : ℕ) → t * (d * 2) / 2 ≡ t * d
+    half t d = ap (λ (x : ℕ). x / 2) (sym (N.mul_assoc t d 2)) ∙ twice (t * d)
+      where
+        twice : (x : ℕ) → x * 2 / 2 ≡ x
+        twice x = omega arith
 
 -- when all bits are read the sum is the product
 pub all_bits : {n a b sum term rest : ℕ} → AfterBits n a b n sum term rest → sum ≡ mul n a b

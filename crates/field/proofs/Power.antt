@@ -1,9 +1,10 @@
 -- Powers and squares, at every width.
 use mathlib.Core.Path.{◌≡◌, refl, sym, ap, ◌∙◌}
 use Prim.Native.Nat.{ℕ, zero, suc, ◌+◌, ◌*◌, ◌^◌, ◌<◌}
-use native.Mathlib.Nat.{zero-add, suc-add, mul-suc, add_comm}
+use native.Mathlib.Nat.{zero-add, suc-add, add-zero, add-suc, mul-suc, add_comm}
 use native.Mathlib.Nat as N
 use native.Mathlib.Omega.{arith}
+use Rattle.std.specs.List.{fold, range_with_len}
 use Rattle.xor.specs.Xor.{◌⊕◌}
 use Rattle.xor.specs.Sum.{AdditiveBelow}
 use Rattle.xor.proofs.Xor.{xor}
@@ -19,6 +20,16 @@ pow_zero n a = refl
 pub pow_suc : (n a k : ℕ) → pow n a (suc k) ≡ mul n a (pow n a k)
 unfolding pow
 pow_suc n a k = refl
+
+-- e products make a power of it
+powers_more : (n a j i e : ℕ) → fold (λ p _. mul n a p) (pow n a j) (range_with_len i e) ≡ pow n a (j + e)
+powers_more n a j i zero = ap (pow n a) (sym (add-zero j))
+powers_more n a j i (suc e) =
+    ap (λ (p : ℕ). fold (λ p _. mul n a p) p (range_with_len (i + 1) e)) (sym (pow_suc n a j)) ∙ powers_more n a (suc j) (i + 1) e
+    ∙ ap (pow n a) (suc-add j e ∙ sym (add-suc j e))
+
+pub fold_pow : (n a e : ℕ) → fold (λ p _. mul n a p) 1 (range_with_len 0 e) ≡ pow n a e
+fold_pow n a e = ap (λ (p : ℕ). fold (λ p _. mul n a p) p (range_with_len 0 e)) (sym (pow_zero n a)) ∙ powers_more n a 0 0 e ∙ ap (pow n a) (zero-add e)
 
 module _ {n : ℕ} (ring : Ring n) where
   pub pow_one : (a : ℕ) → pow n a 1 ≡ a

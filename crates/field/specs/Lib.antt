@@ -3,3 +3,4 @@ pub mod Loop
 pub mod Power
 pub mod Polynomial
 pub mod Laws
+pub mod Reductions

@@ -2,6 +2,7 @@
 use mathlib.Core.Path.{◌≡◌}
 use Prim.Native.Nat.{ℕ, ◌+◌, ◌*◌, ◌/◌, ◌%◌, ◌^◌, ◌<◌}
 use native.Mathlib.Omega.{arith}
+use lib.Bits.{bit_xor}
 use Rattle.xor.specs.Xor.{◌⊕◌}
 use Rattle.field.proofs.Tests.{same_below}
 use Rattle.steps.specs.Iterate.{turns, iterate}
@@ -26,8 +27,8 @@ top_of t u ht hu =
 
 -- the round number
 pub number_of : (r t u : ℕ) → r < 32 → u < 2 ^ 16
-    → (t * 2 ^ 16 + u) ⊕ round_number size80 r ≡ (t ⊕ r / 2) * 2 ^ 16 + (u ⊕ r % 2 * 2 ^ 15)
-unfolding round_number
+    → (t * 2 ^ 16 + u) ⊕ round_number size80 r ≡ bit_xor t (r / 2) * 2 ^ 16 + bit_xor u (r % 2 * 2 ^ 15)
+unfolding round_number ◌⊕◌
 number_of r t u hr hu =
     let e : r * 2 ^ 15 ≡ r / 2 * 2 ^ 16 + r % 2 * 2 ^ 15 = omega arith in
     rw e (⊕-block 16 t (r / 2) u (r % 2 * 2 ^ 15) hu (omega arith))

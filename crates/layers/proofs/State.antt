@@ -2,13 +2,15 @@
 use mathlib.Core.Path.{◌≡◌, refl, sym, ap, ap₂, ◌∙◌}
 use mathlib.Core.List.{List, [], ◌∷◌, ◌++◌}
 use Prim.Native.Nat.{ℕ, zero, suc, ◌+◌, ◌-◌, ◌*◌, ◌/◌, ◌%◌, ◌^◌, ◌≤◌, ◌<◌}
-use native.Mathlib.Nat.{zero-add, add-mul, mul_assoc, mod-eq_of_lt, lt_of_lt_of_le}
+use native.Mathlib.Nat.{div-one, zero-add, add-mul, mul_assoc, mod-eq_of_lt, lt_of_lt_of_le}
 use native.Mathlib.Omega.{arith}
 use lib.ListN.{length, get_or, set, take, drop, length-append, length-drop}
 use lib.Pow.{pow-add, pow_mono, shl_lt, shr-shr, high}
 use lib.Seq.{paste, length-take-le, get_or-take, get_or-drop, get_or-set_other}
 use borrow.Rule.Slice.PartMut.{put_mid}
+use Rattle.std.specs.Int.{w16, w64, from_be_bytes, to_be_bytes}
 use Rattle.std.proofs.lemmas.List.{take-append-drop}
+use Rattle.std.proofs.lemmas.Nat.{be_bytes_2, be_bytes_8}
 use Rattle.std.proofs.lemmas.Slice.{put_mid-paste}
 use Rattle.xor.specs.Xor.{◌⊕◌}
 use Rattle.xor.specs.Sum.{Small}
@@ -20,7 +22,7 @@ use Rattle.present.specs.Present.{nibble, replace, size80, round_key}
 use Rattle.steps.proofs.Bytes.{length_to_bytes, from_to_bytes}
 use Rattle.present.proofs.Numbers.{replace_is}
 use Rattle.steps.specs.ShareBytes.{bytes_at, share_at, Changed}
-use Rattle.steps.proofs.Number.{number_parts, number_lt, number_byte, number_set, paste_there, paste_before, paste_after, get_or_to_bytes}
+use Rattle.steps.proofs.Number.{number_parts, number_lt, number_byte, number_set, paste_there, paste_before, paste_after}
 
 -- ---- the number that bytes are
 
@@ -49,6 +51,21 @@ pub from_written : (w k x : ℕ) {ys : List ℕ} → ys ≡ to_bytes k x → len
 from_written w k x {ys} e n h =
     let size : k ≡ w = sym (length_to_bytes k x) ∙ ap length (sym e) ∙ n in
     ap from_bytes e ∙ ap (λ (j : ℕ). from_bytes (to_bytes j x)) size ∙ from_to_bytes w x h
+
+-- eight bytes and two, as the library writes and reads them
+pub eight_written : (x : ℕ) → to_be_bytes w64 x ≡ to_bytes 8 x
+unfolding to_bytes
+eight_written x = simp div-one
+
+pub eight_read : (l : List ℕ) {x : ℕ} → length l ≡ 8 → Small 8 l → x < 2 ^ 64 → x ≡ from_be_bytes w64 l → x ≡ from_bytes l
+eight_read l {x} e small h is = sym (ap from_bytes (sym (be_bytes_8 l x e small is) ∙ eight_written x) ∙ from_to_bytes 8 x h)
+
+pub two_written : (x : ℕ) → to_be_bytes w16 x ≡ to_bytes 2 x
+unfolding to_bytes
+two_written x = simp div-one
+
+pub two_read : (l : List ℕ) {x : ℕ} → length l ≡ 2 → Small 8 l → x < 2 ^ 16 → x ≡ from_be_bytes w16 l → x ≡ from_bytes l
+two_read l {x} e small h is = sym (ap from_bytes (sym (be_bytes_2 l x e small is) ∙ two_written x) ∙ from_to_bytes 2 x h)
 
 -- of the n bytes from a
 pub bytes_lent : (a n : ℕ) {m : ℕ} (l : List ℕ) → m ≡ n → a + n ≤ length l → from_bytes (take m (drop a l)) ≡ from_bytes (bytes_at a n l)
@@ -150,16 +167,6 @@ changed_lent w i {a} {n} {x} l ys ea en h e ex = rw (put_mid-paste a n l ys ys n
           earlier = paste_before l (w * i) ys w h (omega arith);
           later = paste_after l (w * i) ys w h (omega arith);
         }
-
--- byte j of the lowest w bytes of x
-unfoldable pub byte_of : ℕ → ℕ → ℕ → ℕ
-byte_of w x j = x / 2 ^ (8 * (w - 1 - j)) % 256
-
-pub bytes_of_number : (w x : ℕ) → tabulate w (byte_of w x) ≡ to_bytes w x
-unfolding byte_of
-bytes_of_number w x =
-    tabulate_same w (byte_of w x) (λ j. get_or (to_bytes w x) j 0) (λ j h. sym (get_or_to_bytes w x j h))
-    ∙ rw (length_to_bytes w x) at (tabulate_get_or (to_bytes w x) 0)
 
 -- a share as its first v bytes and the n bytes after them
 pub share_parts : (v n i : ℕ) (l : List ℕ)

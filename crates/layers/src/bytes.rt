@@ -1,26 +1,19 @@
-// Numbers in bytes, high byte first.
-ghost use Rattle.std.specs.Prelude.{◌≡◌, ◌*◌, ◌^◌, ◌<◌, ◌≤◌, length};
+// Numbers of 64 bits in eight bytes, high byte first.
+ghost use Rattle.std.specs.Prelude.{◌≡◌, length};
 ghost use Rattle.steps.specs.Bytes.{from_bytes, to_bytes};
 
-// The number that these bytes are, eight at most.
-pub fn number(bytes: &[u8]) -> u64
-    requires { length bytes.now ≤ 8 }
-    ensures { (result ≡ from_bytes bytes.now) × (result < 2 ^ (8 * length bytes.now)) }
+// The number that eight bytes are.
+pub fn read_u64(bytes: &[u8]) -> u64
+    requires { length bytes.now ≡ 8 }
+    ensures { result ≡ from_bytes bytes.now }
 {
-    let mut x = 0;
-    for b in bytes {
-        x = x * 256 + u64::from(*b);
-    }
-    x
+    u64::from_be_bytes(bytes.try_into().unwrap())
 }
 
-// Writes the lowest bytes of x, eight at most.
-pub fn put_number(bytes: &mut [u8], x: u64)
-    requires { length bytes.old ≤ 8 }
-    ensures { bytes.new ≡ to_bytes (length bytes.old) x }
+// Writes x to eight bytes.
+pub fn write_u64(bytes: &mut [u8], x: u64)
+    requires { length bytes.old ≡ 8 }
+    ensures { bytes.new ≡ to_bytes 8 x }
 {
-    let w = bytes.len();
-    for (j, byte) in bytes.iter_mut().enumerate() {
-        *byte = ((x >> (8 * (w - 1 - j))) % 256) as u8;
-    }
+    bytes.copy_from_slice(&x.to_be_bytes());
 }

@@ -6,12 +6,13 @@ ghost use Rattle.present.specs.Present as present;
 ghost use Rattle.present.specs.Decrypt as decryption;
 ghost use Rattle.layers.specs.Held.{held};
 
-use crate::bytes::{number, put_number};
+use crate::bytes::{read_u64, write_u64};
 
 // PRESENT's table, one nibble an entry, entry 0 the lowest. An array would be written out in every round.
 const TABLE: u64 = 0x21748FE3DA09B65C;
 
 // The S-box.
+#[tactic(auto, using(crate::proofs::KeyParts::nibbles))]
 fn substitute(v: u64) -> u64
     requires { v < 16 }
     ensures { (result ≡ present.substitute v) × (result < 16) }
@@ -19,7 +20,15 @@ fn substitute(v: u64) -> u64
     (TABLE >> (4 * v)) % 16
 }
 
-// The first 64 bits of a key, which are the round key, and its last 16.
+// The number of a round, which five bits hold.
+#[derive(Clone, Copy)]
+pub struct Round {
+    pub number: u16,
+    pub ghost small: { number < 32 },
+}
+
+// The first 64 bits of a key, which are the round key, and its last 16. Rotations forth and back are each written as their definition is: one by the
+// other's distance would be two shifts of a number of 80 bits, which no type has.
 #[derive(Clone, Copy)]
 pub struct Key {
     pub high: u64,
@@ -34,8 +43,8 @@ impl Key {
     {
         let (high, low) = bytes.split_at(8);
         Key {
-            high: number(high),
-            low: number(low) as u16,
+            high: read_u64(high),
+            low: u16::from_be_bytes(low.try_into().unwrap()),
         }
     }
 
@@ -45,11 +54,12 @@ impl Key {
         ensures { from_bytes bytes.new ≡ held self }
     {
         let (high, low) = bytes.split_at_mut(8);
-        put_number(high, self.high);
-        put_number(low, u64::from(self.low));
+        write_u64(high, self.high);
+        low.copy_from_slice(&self.low.to_be_bytes());
     }
 
     // The key rotated left by 61.
+    #[tactic(auto, using(crate::proofs::KeyParts::rotated_parts))]
     pub fn rotate(self) -> Key
         ensures { held result ≡ present.rotate present.size80 (held self) }
     {
@@ -62,6 +72,7 @@ impl Key {
     }
 
     // The key rotated right by 61.
+    #[tactic(auto, using(crate::proofs::KeyParts::unrotated_parts))]
     pub fn unrotate(self) -> Key
         ensures { held result ≡ decryption.unrotate present.size80 (held self) }
     {
@@ -74,6 +85,7 @@ impl Key {
     }
 
     // The key with its top nibble put through the S-box.
+    #[tactic(auto, using(crate::proofs::KeyParts::top_of))]
     fn substitute_top(self) -> Key
         ensures { held result ≡ present.on_top_nibbles present.substitute present.size80 (held self) }
     {
@@ -85,21 +97,21 @@ impl Key {
         }
     }
 
-    // The key with the round number r added at bits 19 to 15.
-    pub fn add_number(self, r: u16) -> Key
-        requires { r < 32 }
-        ensures { held result ≡ held self ⊕ present.round_number present.size80 r }
+    // The key with the number of round r added at bits 19 to 15.
+    #[tactic(auto, using(crate::proofs::KeyParts::number_of))]
+    pub fn add_number(self, r: Round) -> Key
+        ensures { held result ≡ held self ⊕ present.round_number present.size80 r.number }
     {
         Key {
-            high: self.high ^ u64::from(r / 2),
-            low: self.low ^ (r % 2 * 0x8000),
+            high: self.high ^ u64::from(r.number / 2),
+            low: self.low ^ (r.number % 2 * 0x8000),
         }
     }
 
     // The key after round r.
-    pub fn update(self, r: u16) -> Key
-        requires { r < 32 }
-        ensures { held result ≡ present.update_key present.size80 r (held self) }
+    #[tactic(auto, unfolding(present::specs::Present::update_key))]
+    pub fn update(self, r: Round) -> Key
+        ensures { held result ≡ present.update_key present.size80 r.number (held self) }
     {
         self.rotate().substitute_top().add_number(r)
     }

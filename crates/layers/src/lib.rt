@@ -7,5 +7,6 @@ pub mod permutation;
 pub mod share;
 pub mod shares;
 
+pub use key::Round;
 pub use share::{InversePermutation, InverseRotation, Permutation, Rotation, ShareMap, nibble};
-pub use shares::{add_round_keys, add_round_number, column, map_shares, replace_column, store};
+pub use shares::{add_round_keys, add_round_number, column, map_shares, replace_column};

@@ -1,4 +1,4 @@
-// The permutation and its inverse, by exchanges of bits.
+// The permutation and its inverse, by exchanges of bits: eight lines, which a loop over masks forth or back would not make fewer.
 ghost use Rattle.std.specs.Prelude.{◌≡◌, ◌<◌};
 ghost use Rattle.present.specs.Present as present;
 ghost use Rattle.present.specs.Decrypt as decryption;
@@ -14,6 +14,7 @@ fn exchange(x: u64, mask: u64, k: u32) -> u64
 }
 
 // Bit i goes to 16 i mod 63; bit 63 stays.
+#[tactic(auto, using(crate::proofs::Exchanges::exchanges_permute))]
 pub fn permute(x: u64) -> u64
     ensures { result ≡ present.permute x }
 {
@@ -24,6 +25,7 @@ pub fn permute(x: u64) -> u64
 }
 
 // The same exchanges in the other order: bit 16 i mod 63 goes to i.
+#[tactic(auto, using(crate::proofs::Exchanges::exchanges_unpermute))]
 pub fn unpermute(x: u64) -> u64
     ensures { result ≡ decryption.unpermute x }
 {

@@ -8,8 +8,8 @@ ghost use Rattle.steps.specs.Bytes.{from_bytes};
 ghost use Rattle.steps.specs.Linear.{Linear};
 ghost use Rattle.steps.specs.ShareBytes.{share_at, Changed};
 
-use crate::bytes::{number, put_number};
-use crate::key::Key;
+use crate::bytes::{read_u64, write_u64};
+use crate::key::{Key, Round};
 use crate::permutation::{permute, unpermute};
 
 // A linear map on the shares of a block or of a key.
@@ -43,8 +43,8 @@ impl ShareMap for Permutation {
     ghost linear = { permute_linear };
 
     fn apply(share: &mut [u8]) {
-        let x = number(share);
-        put_number(share, permute(x));
+        let x = read_u64(share);
+        write_u64(share, permute(x));
     }
 }
 
@@ -61,8 +61,8 @@ impl ShareMap for InversePermutation {
     ghost linear = { unpermute_linear };
 
     fn apply(share: &mut [u8]) {
-        let x = number(share);
-        put_number(share, unpermute(x));
+        let x = read_u64(share);
+        write_u64(share, unpermute(x));
     }
 }
 
@@ -115,13 +115,14 @@ pub fn add_share(i: usize, key: &[u8], block: &mut [u8])
     ensures { Changed 8 i (present.round_key present.size80 (share_at 10 key.now i) ⊕ share_at 8 block.old i)
         block.old block.new }
 {
-    let round_key = number(&key[10 * i..10 * i + 8]);
+    let round_key = read_u64(&key[10 * i..10 * i + 8]);
     let share = &mut block[8 * i..8 * i + 8];
-    let x = number(share);
-    put_number(share, round_key ^ x);
+    let x = read_u64(share);
+    write_u64(share, round_key ^ x);
 }
 
-// Nibble k of share i, of w bytes.
+// Nibble k of share i, of w bytes: read and replaced as one, where `bit_at` and `put_bit` of `linear` would take a call for each bit. The bound of k is
+// that of a loop over nibbles, or of a number, and a type for it would be made in each turn.
 pub fn nibble(w: usize, i: usize, k: usize, l: &[u8]) -> u8
     requires { (k < 2 * w) × (w * i + w ≤ length l.now) }
     ensures { result ≡ present.nibble k (share_at w l.now i) }
@@ -142,11 +143,11 @@ pub fn replace(w: usize, i: usize, k: usize, v: u8, l: &mut [u8])
     l[at] = b ^ (d << shift);
 }
 
-// Adds the round number r to share 0 of a key.
-pub fn add_number(r: u8, key: &mut [u8])
-    requires { (r < 32) × (10 ≤ length key.old) }
-    ensures { Changed 10 0 (share_at 10 key.old 0 ⊕ present.round_number present.size80 r) key.old key.new }
+// Adds the number of round r to share 0 of a key.
+pub fn add_number(r: Round, key: &mut [u8])
+    requires { 10 ≤ length key.old }
+    ensures { Changed 10 0 (share_at 10 key.old 0 ⊕ present.round_number present.size80 r.number) key.old key.new }
 {
     let share = &mut key[..10];
-    Key::load(share).add_number(u16::from(r)).store(share);
+    Key::load(share).add_number(r).store(share);
 }

@@ -1,22 +1,16 @@
 // All shares of a block or of a key: the parts of a round on them, and nibbles as sharings of their own. Bytes past the shares in use are kept.
+// Loops go by the number of the share: of what is written through `chunks_exact_mut`, or an adapter of `iter_mut`, the library says the length alone.
 ghost use Rattle.std.specs.Prelude.{◌≡◌, map, ◌*◌, ◌<◌, ◌≤◌, length};
 ghost use Rattle.xor.specs.Xor.{◌⊕◌};
 ghost use Rattle.xor.specs.Sum.{join};
 ghost use Rattle.steps.specs.Sharing.{Sharing};
 ghost use Rattle.present.specs.Present as present;
 ghost use Rattle.steps.specs.Sharing.{share_wise, alone};
-ghost use Rattle.steps.specs.ShareBytes.{bytes_of, shares_of, sharing, KeptPast};
+ghost use Rattle.steps.specs.ShareBytes.{sharing, KeptPast};
 
+use crate::key::Round;
 use crate::share::{ShareMap, add_number, add_share, map_share, nibble, replace};
-use steps::ShareCount;
-
-// Copies the shares of a block out.
-pub fn store(s: ShareCount, block: &[u8], out: &mut [u8])
-    requires { (length out.old ≡ 8 * s.count) × (8 * s.count ≤ length block.now) }
-    ensures { out.new ≡ bytes_of 8 (shares_of 8 s.count block.now) }
-{
-    out.copy_from_slice(&block[..8 * s.count]);
-}
+use steps::{ShareCount, filled};
 
 // Puts each share through a map.
 pub fn map_shares<M: ShareMap>(s: ShareCount, l: &mut [u8])
@@ -40,11 +34,11 @@ pub fn add_round_keys(s: ShareCount, key: &[u8; 90], block: &mut [u8; 72])
     }
 }
 
-// Adds the round number r to share 0 of a key.
-pub fn add_round_number(s: ShareCount, r: u8, key: &mut [u8; 90])
-    requires { (0 < s.count) × (r < 32) }
+// Adds the number of round r to share 0 of a key.
+pub fn add_round_number(s: ShareCount, r: Round, key: &mut [u8; 90])
+    requires { 0 < s.count }
     ensures key_after { sharing 10 s.count key.new
-        ≡ share_wise ◌⊕◌ (sharing 10 s.count key.old) (alone (present.round_number present.size80 r)) }
+        ≡ share_wise ◌⊕◌ (sharing 10 s.count key.old) (alone (present.round_number present.size80 r.number)) }
     ensures kept_past { KeptPast 10 s.count key.old key.new }
 {
     add_number(r, key);
@@ -55,11 +49,7 @@ pub fn column(w: usize, s: ShareCount, k: usize, l: &[u8]) -> [u8; 9]
     requires { (k < 2 * w) × (w * s.count ≤ length l.now) }
     ensures { result ≡ map (present.nibble k) (sharing w s.count l.now) }
 {
-    let mut c = [0u8; 9];
-    for i in 0..s.count {
-        c[i] = nibble(w, i, k, l);
-    }
-    c
+    filled(s.count, |i| nibble(w, i, k, l))
 }
 
 // Replaces nibble k of each share, of w bytes, by that share of v.

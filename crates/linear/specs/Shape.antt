@@ -1,6 +1,6 @@
 -- For inner contracts only. How a matrix lies in a buffer of bytes and a solution in another, over elements and over bits. The elimination and the
 -- solver are stated of a shape.
-use Rattle.std.specs.Prelude.{Bool, true, false, ◌||◌, List, MatchOption, Option, eqb, replicate, ◌≡◌, ℕ, ◌+◌, ◌*◌, ◌≤◌, ◌<◌, length}
+use Rattle.std.specs.Prelude.{Bool, ◌||◌, List, MatchOption, Option, Result, Ok, Err, eqb, replicate, ◌≡◌, ℕ, ◌+◌, ◌*◌, ◌≤◌, ◌<◌, length}
 use Rattle.xor.specs.Sum.{Small}
 use Rattle.linear.specs.Bits.{bits}
 use Rattle.linear.specs.Buffer.{Written, bytes, in_rows}
@@ -114,10 +114,10 @@ pub record ReadOffIn (s : Shape) (l out : List ℕ) (r : ℕ) : Type 0 where
   pub read : ReadOff (cells s l) s.unknowns r (s.solution out)
   pub small : Small s.width out
 
--- the answer for the equations M. true: the canonical solution is written, as elements. false: there is no solution, and nothing is written
-abbrev pub Solved : Shape → (ℕ → ℕ → ℕ) → List ℕ → List ℕ → Bool → Type 0
-Solved s M out out' true = Canonical s.scalars s.rows M s.unknowns (s.solution out') × Small s.width out'
-Solved s M out out' false = Inconsistent s.scalars s.rows M s.unknowns × (out' ≡ out)
+-- the answer for the equations M. Ok: the canonical solution is written, as elements. Err: there is no solution, and nothing is written
+abbrev pub Solved : {E : Type 0} → Shape → (ℕ → ℕ → ℕ) → List ℕ → List ℕ → Result (Unit {0}) E → Type 0
+Solved s M out out' (Ok u) = Canonical s.scalars s.rows M s.unknowns (s.solution out') × Small s.width out'
+Solved s M out out' (Err e) = Inconsistent s.scalars s.rows M s.unknowns × (out' ≡ out)
 
 -- ---- the two shapes of m rows in u unknowns
 

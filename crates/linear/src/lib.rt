@@ -14,4 +14,4 @@ pub mod solving;
 pub use bit_matrix::BitMatrix;
 pub use element_matrix::ElementMatrix;
 pub use packing::put_bit;
-pub use solving::solve;
+pub use solving::{NoSolution, solve};

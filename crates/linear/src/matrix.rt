@@ -1,4 +1,5 @@
-// A matrix in a buffer of bytes, by what the elimination does with it.
+// A matrix in a buffer of bytes, by what the elimination does with it. The buffer is lent beside the system, for reading or for writing: with it in the
+// system there would be a type for each. So what is asked of it (`Room`) stands at each function to which it is lent.
 ghost use Rattle.std.specs.Prelude.{◌≡◌, ℕ, List, ◌^◌, ◌<◌, ◌≤◌, length};
 ghost use Rattle.xor.specs.Sum.{Small};
 ghost use Rattle.linear.specs.Buffer.{Written};

@@ -1,5 +1,6 @@
 // Bits in a buffer of bytes, bit 0 first. Each byte holds n of them: 8 in the rows of a matrix, and as many as an element has where the bits of
-// elements are written.
+// elements are written. A place is a byte, where a row or a solution begins, and a bit from there on: slices would have each caller add the two. What two
+// slices ask of one another, and what becomes of them (`Added`), stands where they are named.
 ghost use Rattle.std.specs.Prelude.{◌≡◌, ◌+◌, ◌*◌, ◌/◌, ◌<◌, ◌≤◌, length};
 ghost use Rattle.xor.specs.Sum.{Small};
 ghost use Rattle.linear.specs.Buffer.{Written, Overwritten};
@@ -50,7 +51,7 @@ fn add_eight(row: &mut [u8], other: &[u8])
     row[7] = x7;
 }
 
-// Adds the groups of eight bytes that a row has to those of another.
+// Adds the groups of eight bytes that a row has to those of another. They are lent by range: of what `chunks_exact_mut` lends nothing is known afterwards.
 fn add_groups(row: &mut [u8], other: &[u8])
     requires { length other.now ≡ length row.old }
     ensures { Overwritten row.old row.new 0 (length row.old / 8 * 8) (sum_bytes row.old other.now) }
@@ -61,7 +62,7 @@ fn add_groups(row: &mut [u8], other: &[u8])
     }
 }
 
-// Adds bytes one by one.
+// Adds bytes one by one. It goes by index over the one, as `rows::add_multiple` does.
 pub fn add_bytes(row: &mut [u8], other: &[u8])
     requires { length other.now ≡ length row.old }
     ensures { Added row.old other.now row.new }

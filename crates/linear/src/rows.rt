@@ -5,7 +5,7 @@ ghost use Rattle.linear.specs.Scalars.{scalars};
 ghost use Rattle.linear.specs.Row.{Agree, plus, times};
 ghost use Rattle.linear.specs.Buffer.{bytes};
 
-// Adds a multiple of another row.
+// Adds a multiple of another row. It goes by index over the one: of what `iter_mut` writes under a `zip` nothing is known.
 pub fn add_multiple(width: u32, row: &mut [u8], other: &[u8], factor: u8)
     requires { Narrow width × (length row.old ≡ length other.now) }
     ensures { Agree (length row.old) (bytes row.new)

@@ -1,3 +1,4 @@
 pub mod Product
 pub mod ByShare
 pub mod Counts
+pub mod Makes

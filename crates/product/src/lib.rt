@@ -1,6 +1,8 @@
 // The masked product of two sharings, and the square of one.
 #![tactic(auto)]
 
+mod making;
+
 ghost use Rattle.std.specs.Prelude.{◌≡◌, ◌+◌, ◌<◌};
 ghost use Rattle.steps.specs.Program.{for};
 ghost use Rattle.steps.specs.Machine.{Ready, Went};
@@ -8,6 +10,7 @@ ghost use Rattle.product.specs.Product as spec;
 ghost use Rattle.product.specs.ByShare as by_share;
 
 use field::Field;
+pub use making::by_share;
 use steps::ShareCount;
 use steps::machine::Machine;
 
@@ -15,6 +18,7 @@ use steps::machine::Machine;
 pub type Sharing = [u8; 9];
 
 // What share i of a sharing gets of the constant c: it goes to share 0 only.
+#[tactic(auto, using(crate::proofs::ByShare::constant_first, crate::proofs::ByShare::constant_other))]
 pub fn constant(i: usize, c: u8) -> u8
     ensures { result ≡ by_share.constant i c }
 {
@@ -108,6 +112,7 @@ fn starts<F: Field, M: Machine>(
 }
 
 // The square of a sharing of s shares: that of each share.
+#[tactic(auto, unfolding(crate::specs::ByShare::square, crate::specs::ByShare::by_share, crate::specs::Product::start))]
 pub fn square<F: Field, M: Machine>(machine: &mut M, s: ShareCount, a: &Sharing) -> Sharing
     requires { Ready (by_share.square F.WIDTH s.count a.now) (M.state machine.old) }
     ensures { Went (by_share.square F.WIDTH s.count a.now) (M.state machine.old) result (M.state machine.new) }

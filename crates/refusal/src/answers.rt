@@ -24,6 +24,7 @@ impl HandedBack for () {
 }
 
 // An answer: the number of a refusal, 0 for done; then its place, or what is handed back.
+#[tactic(auto, unfolding(crate::specs::Words::words))]
 pub fn answer_words<T: HandedBack>(answer: Result<T, Refusal>) -> [u64; 4]
     ensures { result ≡ words (report T.numbers answer) }
 {

@@ -31,7 +31,7 @@ pub enum Refusal {
 }
 
 impl Refusal {
-    // The number of the refusal.
+    // The number of the refusal. No `From<Refusal>` gives it: the number alone has lost the place.
     pub fn number(self) -> u8
         ensures { result ≡ number_of self }
     {
@@ -66,6 +66,7 @@ impl fmt::Display for Refusal {
     }
 }
 
+// Written out: a derive of `Error` is in a crate of its own, and this one, which all others are built over, is over none.
 impl Error for Refusal {}
 
 // A test: refuses unless this holds.

@@ -1,13 +1,13 @@
 -- The laws of calls: the arguments that pass the tests, and what a run hands back and writes.
-use mathlib.Core.Path.{◌≡◌, refl, sym, ap, ap₂, ◌∙◌, subst}
+use mathlib.Core.Path.{◌≡◌, refl, sym, ap, ap₂, ◌∙◌}
 use mathlib.Core.Bool.{Bool, true, cond, and-eq-true_iff}
 use mathlib.Core.List.{List, [], ◌∷◌, ◌++◌}
-use Prim.Native.Nat.{ℕ, suc, ◌+◌, ◌-◌, ◌^◌, ◌≤◌, ◌<◌}
+use Prim.Native.Nat.{ℕ, ◌+◌, ◌-◌, ◌^◌, ◌≤◌, ◌<◌}
 use native.Mathlib.Decide.{dec_lt}
 use native.Mathlib.Omega.{arith}
 use borrow.Author.Tests.{eqb-true, eq-eqb, leb-true}
 use lib.Dec.{leb, eqb}
-use lib.ListN.{length, drop, take, get_or, replicate, get_or-append, get_or-eq_default}
+use lib.ListN.{length, drop, take, replicate, get_or-append, get_or-eq_default}
 use lib.Seq.{get_or-append-add, get_or-drop, get_or-take, length-take-le}
 use Rattle.steps.proofs.Sharing.{share_zeros}
 use lib.Pow.{pow_pos}
@@ -18,8 +18,6 @@ use Rattle.refusal.specs.Large.{first_large}
 use Rattle.refusal.proofs.Outcome.{passed, then_passed}
 use Rattle.refusal.proofs.Range.{one_to_range}
 use Rattle.refusal.proofs.Large.{all_small, both_small}
-use Rattle.steps.specs.Program.{Run, trace}
-use Rattle.steps.specs.Recorder.{AllBelow}
 use Rattle.steps.specs.Sharing.{share, Sharing}
 use Rattle.steps.specs.Fill.{tabulate}
 use Rattle.steps.proofs.Fill.{tabulate_get_or, tabulate_same}
@@ -38,7 +36,7 @@ use Rattle.decomposition.proofs.Sizes.{each_pair, known_both, layout_outputs, la
 use Rattle.sbox.specs.Form.{basis_in, solution_in}
 use Rattle.sbox.specs.Figures.{sbox_products, sbox_draws, sbox_steps}
 use Rattle.sbox.specs.Sbox.{sbox}
-use Rattle.sbox.specs.Operations.{call_program, sbox_call, sbox_lengths, tested_random, argument_tests, call_tests, sbox_output, SameShares, Callable, OfPair, layout_program}
+use Rattle.sbox.specs.Operations.{call_program, sbox_call, sbox_lengths, tested_random, argument_tests, call_tests, sbox_output, SameShares, Callable, OfPair}
 use Rattle.sbox.proofs.Places.{sbox_same}
 use Rattle.sbox.proofs.Record.{accepted_record}
 use Rattle.sbox.proofs.Counts.{figures_4_4, figures_6_6, figures_6_4}
@@ -63,25 +61,6 @@ module _ (r : List ℕ) {L : Layout} (l : L ≡ layout_of r) where
 
   pub of_pair : Pair (width_of r) (outputs_of r) → OfPair L
   of_pair pair = record { pair = rw (width_is, outputs_is) pair; layout_is = l ∙ sym (ap₂ layout width_is outputs_is) }
-
-  module _ {cs : List ℕ} {s k : ℕ} (shares random : List ℕ) (e : cs ≡ coefficients_of r) (f : k ≡ s) where
-    program_is : layout_program L cs k shares ≡ call_program r s shares
-    unfolding call_program
-    program_is = rw (width_is, outputs_is, e, f) refl
-
-    -- what holds of its random elements and its program holds of those of the call,
-    pub at_call : (P : List ℕ → Run (List ℕ) → Type 0) → P (elements L.width random) (layout_program L cs k shares)
-        → P (elements (width_of r) random) (call_program r s shares)
-    at_call P h =
-        let same : P (elements L.width random) (call_program r s shares) = subst (λ (m : Run (List ℕ)). P (elements L.width random) m) program_is h in
-        subst (λ (n : ℕ). P (elements n random) (call_program r s shares)) width_is same
-
-    -- and the other way
-    pub of_call : (P : List ℕ → Run (List ℕ) → Type 0) → P (elements (width_of r) random) (call_program r s shares)
-        → P (elements L.width random) (layout_program L cs k shares)
-    of_call P h =
-        let same : P (elements L.width random) (call_program r s shares) = subst (λ (n : ℕ). P (elements n random) (call_program r s shares)) (sym width_is) h in
-        subst (λ (m : Run (List ℕ)). P (elements L.width random) m) (sym program_is) same
 
 -- ---- a call that passes the tests
 
@@ -180,34 +159,7 @@ module _ {n s : ℕ} {r shares random : List ℕ} (a : Callable n r s shares ran
       let v : Whole (elements (width_of r) random) (call_program r s shares) x c = rw a.accepted.named w in
       ap (λ (y : List ℕ). tabulate s (share y)) (call.call_result_lem (sbox_call r s shares random) v)
 
-  -- what a watch leaves, where each number of the list is that of a step
-  some_steps : 0 < sbox_steps n (outputs_of r) s
-  some_steps =
-      each_pair (λ n m. 0 < sbox_steps n m s) (omega (arith, a.some, figures_4_4 s)) (omega (arith, a.some, figures_6_6 s))
-      (omega (arith, a.some, figures_6_4 s)) n (outputs_of r) a.accepted.pair
-
-  pub steps_below : (list : List ℕ) → length list ≤ first_large (sbox_steps n (outputs_of r) s) list
-      → AllBelow (length (trace (call_program r s shares) (elements (width_of r) random))) list
-  steps_below list below = rw (call_takes a).steps_are (all_below list (all_small (sbox_steps n (outputs_of r) s) list some_steps below))
-    where
-      all_below : (l : List ℕ) → ((i : ℕ) → get_or l i 0 < sbox_steps n (outputs_of r) s) → AllBelow (sbox_steps n (outputs_of r) s) l
-      all_below [] h = tt
-      all_below (x ∷ l) h = (h 0, all_below l (λ i. h (suc i)))
-
 -- ---- shares that are copied
-
--- zeros past the end change no share
-pub padded : (l : List ℕ) (k n : ℕ) → SameShares (l ++ drop k (replicate n 0)) l
-padded l k n i = elim (dec_lt i (length l)) [
-  | yes h ↦ get_or-append l (drop k (replicate n 0)) 0 i h
-  | no h ↦
-      let e : i ≡ length l + (i - length l) = omega arith in
-      ap (λ (j : ℕ). share (l ++ drop k (replicate n 0)) j) e
-      ∙ get_or-append-add l (drop k (replicate n 0)) (i - length l) 0
-      ∙ get_or-drop k (replicate n 0) (i - length l) 0
-      ∙ share_zeros n (k + (i - length l))
-      ∙ sym (get_or-eq_default l 0 {n = i} (omega arith))
-]
 
 -- the first n shares of a sharing
 pub first_shares : (n : ℕ) (a : List ℕ) → n ≤ length a → take n a ≡ tabulate n (share a)

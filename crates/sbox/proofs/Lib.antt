@@ -14,6 +14,7 @@ pub mod Holds
 pub mod Lockstep
 pub mod Widths
 pub mod Calls
+pub mod Passed
 pub mod Tests
 pub mod Answers
 pub mod Output

@@ -19,6 +19,8 @@ use Rattle.field.proofs.Power.{pow_zero}
 use Rattle.field.proofs.Inverses.{field_of}
 use Rattle.decomposition.specs.Layout.{Known}
 use Rattle.decomposition.proofs.Sizes.{known_width}
+use Rattle.steps.specs.Fill.{tabulate}
+use Rattle.steps.proofs.Fill.{length_tabulate}
 use Rattle.steps.specs.Program.{one, ◌>>=◌, note}
 use Rattle.steps.specs.Shape.{step_of, Shaped, shaped_return, shaped_step}
 use Rattle.steps.specs.Sharing.{share, Sharing}
@@ -65,36 +67,23 @@ value_sum n w x cs =
     (λ r. mul n (get_or cs (r + 1) 0) (pow n x (get_or (later_exponents n) r 0))) (λ r l k. rw add-one)
     ∙ ap (λ (k : ℕ). for_sum 0 k (λ r. mul n (get_or cs (r + 1) 0) (pow n x (get_or (later_exponents n) r 0)))) (sym (length_later n w)))
 
--- f j, f (j + 1) and so on, k of them
-up_from : (ℕ → ℕ) → ℕ → ℕ → List ℕ
-up_from f j zero = []
-up_from f j (suc k) = f j ∷ up_from f (suc j) k
+-- the first term, and the sum of the others
+sum_head : (k : ℕ) (f : ℕ → ℕ) → sum_of (suc k) f ≡ f 0 ⊕ sum_of k (λ i. f (suc i))
+unfolding sum_of
+sum_head zero f = zero_⊕ (f 0) ∙ sym (⊕-zero (f 0))
+sum_head (suc k) f = ap (λ (v : ℕ). v ⊕ f (suc k)) (sum_head k f) ∙ ⊕-assoc (f 0) (sum_of k (λ i. f (suc i))) (f (suc k))
 
-length_up : (f : ℕ → ℕ) (j k : ℕ) → length (up_from f j k) ≡ k
-unfolding up_from
-length_up f j zero = refl
-length_up f j (suc k) = ap suc (length_up f (suc j) k)
-
-join_up : (f : ℕ → ℕ) (j k : ℕ) → sum_of j f ⊕ join (up_from f j k) ≡ sum_of (j + k) f
-unfolding up_from sum_of
-join_up f j zero =
-    let e : j ≡ j + 0 = omega arith in
-    ap (λ (v : ℕ). sum_of j f ⊕ v) join_nil ∙ ⊕-zero (sum_of j f) ∙ ap (λ (i : ℕ). sum_of i f) e
-join_up f j (suc k) =
-    let e : suc j + k ≡ j + suc k = omega arith in
-    ap (λ (v : ℕ). sum_of j f ⊕ v) (join_cons (f j) (up_from f (suc j) k))
-    ∙ sym (⊕-assoc (sum_of j f) (f j) (join (up_from f (suc j) k)))
-    ∙ join_up f (suc j) k
-    ∙ ap (λ (i : ℕ). sum_of i f) e
+join_tabulate : (k : ℕ) (f : ℕ → ℕ) → join (tabulate k f) ≡ sum_of k f
+unfolding tabulate sum_of
+join_tabulate zero f = join_nil
+join_tabulate (suc k) f =
+    join_cons (f 0) (tabulate k (λ i. f (suc i))) ∙ ap (λ (v : ℕ). f 0 ⊕ v) (join_tabulate k (λ i. f (suc i))) ∙ sym (sum_head k f)
 
 -- all of them, and v
-join_form : (f : ℕ → ℕ) (k v : ℕ) → join (up_from f 0 k ++ (v ∷ [])) ≡ sum_of k f ⊕ v
-unfolding sum_of
+join_form : (f : ℕ → ℕ) (k v : ℕ) → join (tabulate k f ++ (v ∷ [])) ≡ sum_of k f ⊕ v
 join_form f k v =
-    let e : 0 + k ≡ k = omega arith in
-    join_append (up_from f 0 k) (v ∷ [])
-    ∙ ap₂ ◌⊕◌ (sym (zero_⊕ (join (up_from f 0 k))) ∙ join_up f 0 k ∙ ap (λ (i : ℕ). sum_of i f) e)
-    (join_cons v [] ∙ ap (λ (y : ℕ). v ⊕ y) join_nil ∙ ⊕-zero v)
+    join_append (tabulate k f) (v ∷ [])
+    ∙ ap₂ ◌⊕◌ (join_tabulate k f) (join_cons v [] ∙ ap (λ (y : ℕ). v ⊕ y) join_nil ∙ ⊕-zero v)
 
 -- ---- the shape
 
@@ -131,13 +120,18 @@ module _ {n : ℕ} (w : Known n) (s x : ℕ) (some : 0 < s) (nine : s ≤ 9) whe
       both a l ha hl zero = ha
       both a l ha hl (suc k) = hl k
 
-  shaped_products : (ps qs : List (List ℕ)) (v u : ℕ → ℕ) → ((i : ℕ) → Sharing n s (v i) (nth ps i)) → ((i : ℕ) → Sharing n s (u i) (nth qs i))
-      → (j k : ℕ) → Shaped (Each (Sharing n s) (up_from (λ i. mul n (v i) (u i)) j k)) (times k (product_shape n s)) (form_products n s ps qs j k)
-  unfolding form_products times up_from
-  shaped_products ps qs v u hp hq j zero = shaped_return each_nil
-  shaped_products ps qs v u hp hq j (suc k) =
-      shaped_bind (shaped_product (field_of n (known_width n w)).ring s (v j) (u j) (nth ps j) (nth qs j) nine (hp j) (hq j)) λ a ha.
-      shaped_map (λ l. a ∷ l) (shaped_products ps qs v u hp hq (suc j) k) (λ l hl. each_cons ha.1 hl)
+  -- the products from number j on, of sharings of v 0, v 1 .. and u 0, u 1 ..
+  shaped_products : (ps qs : List (List ℕ)) (v u : ℕ → ℕ) (j k : ℕ) → ((i : ℕ) → Sharing n s (v i) (nth ps (j + i))) → ((i : ℕ) → Sharing n s (u i) (nth qs (j + i)))
+      → Shaped (Each (Sharing n s) (tabulate k (λ i. mul n (v i) (u i)))) (times k (product_shape n s)) (form_products n s ps qs j k)
+  unfolding form_products times tabulate
+  shaped_products ps qs v u j zero hp hq = shaped_return each_nil
+  shaped_products ps qs v u j (suc k) hp hq =
+      let here : j + 0 ≡ j = omega arith in
+      let next : (i : ℕ) → suc j + i ≡ j + suc i = λ i. omega arith in
+      shaped_bind (shaped_product (field_of n (known_width n w)).ring s (v 0) (u 0) (nth ps j) (nth qs j) nine (rw here at (hp 0)) (rw here at (hq 0))) λ a ha.
+      shaped_map (λ l. a ∷ l)
+      (shaped_products ps qs (λ i. v (suc i)) (λ i. u (suc i)) (suc j) k (λ i. rw (next i) (hp (suc i))) (λ i. rw (next i) (hq (suc i))))
+      (λ l hl. each_cons ha.1 hl)
 
   shaped_total : (k : ℕ) {vs : List ℕ} {ts : List (List ℕ)} → length vs ≡ suc k → Each (Sharing n s) vs ts
       → Shaped (λ c. (length c ≡ 9) × Sharing n s (join vs) c) (total_shape s k) (total s ts k)
@@ -162,7 +156,8 @@ shaped_sbox {n} w s x qs ps a some nine hc ha =
     shaped_bind (shaped_powers w s x nine (subst (λ (v : ℕ). v < 2 ^ n) ha.joins (join_small n a ha.small)) ha) λ ws hw.
     shaped_bind (shaped_polynomials w s x some nine qs hc.small_basis hw) λ bs hb.
     shaped_bind (rw hc.one_more at (shaped_polynomials w s x some nine ps hc.small hw)) λ cs hp.
-    shaped_bind (shaped_products w s x some nine cs bs (λ i. value n (nth ps i) x) (λ i. value n (nth qs i) x) hp hb 0 k) λ ts ht.
+    let first : (i : ℕ) → 0 + i ≡ i = λ i. omega arith in
+    shaped_bind (shaped_products w s x some nine cs bs (λ i. value n (nth ps i) x) (λ i. value n (nth qs i) x) 0 k (λ i. rw (first i) (hp i)) (λ i. rw (first i) (hb i))) λ ts ht.
     rw (join_form f k (value n (nth ps k) x)) at
-    (shaped_total w s x some nine k (length-append (up_from f 0 k) (value n (nth ps k) x ∷ []) ∙ omega (arith, length_up f 0 k))
+    (shaped_total w s x some nine k (length-append (tabulate k f) (value n (nth ps k) x ∷ []) ∙ omega (arith, length_tabulate k f))
     (each_append ht (each_cons (hp k) each_nil)))

@@ -1,13 +1,14 @@
--- What the steps of the table come to on the machine, and what they ask of it.
+-- What the steps of the tables come to on the machine, and what they ask of it.
 use mathlib.Core.Path.{◌≡◌, refl}
 use mathlib.Core.List.{List, [], ◌∷◌}
-use Prim.Native.Nat.{ℕ, ◌+◌, ◌*◌, ◌^◌, ◌≤◌, ◌<◌}
+use Prim.Native.Nat.{ℕ, ◌+◌, ◌-◌, ◌*◌, ◌^◌, ◌≤◌, ◌<◌}
 use native.Mathlib.Nat.{le_refl, suc-mul}
 use native.Mathlib.Omega.{arith}
 use lib.Bits.{bit_xor}
 use lib.ListN.{length, get_or}
 use Rattle.xor.specs.Xor.{◌⊕◌}
 use Rattle.field.specs.Mul.{mul}
+use Rattle.field.specs.Polynomial.{exponents}
 use Rattle.decomposition.specs.Layout.{Sizes}
 use Rattle.decomposition.specs.declared.layouts.Layout.{Layout}
 use Rattle.steps.specs.Program.{◌>>=◌, note}
@@ -44,8 +45,12 @@ pub add_room : (ts : List (List ℕ)) (i j u : ℕ) {s : State} → Ready (add_n
 unfolding exec add_next note
 add_room ts i j u y = record { fit = y.steps_fit; places = y.places }
 
+-- a polynomial has a term for each power
+pub as_many_terms : (n : ℕ) {k : ℕ} → length (exponents n) ≡ k + 1 → length (exponents n) - 1 ≡ k
+as_many_terms n e = omega (arith, e)
+
 -- the polynomials of the basis lie within it, and those of the p within theirs
-module _ {n k h : ℕ} {L : Layout} (z : Sizes L) (e : Sized n k h L) where
+module _ {k h : ℕ} {L : Layout} (z : Sizes L) (e : Sized k h L) where
   pub solution_room : (h + 1) * (k + 1) ≤ L.unknowns
   solution_room = rw (z.unknowns, e.own, e.terms) (le_refl ((h + 1) * (k + 1)))
 

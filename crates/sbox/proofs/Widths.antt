@@ -53,39 +53,42 @@ module _ {L : Layout} (o : OfPair L) where
   pub some_terms : 0 < L.terms
   some_terms = omega (arith, terms_are o, few_terms L.width L.outputs o.pair)
 
-  pub sized_4 : L.width ≡ 4 → Sized 4 8 1 L
+  pub sized_4 : L.width ≡ 4 → Sized 8 1 L
   sized_4 w = record {
-    known = refl;
-    listed = length_exponents_4;
-    powers = omega arith;
     own = exponents_are o ∙ ap (λ (n : ℕ). length (exponents n)) w ∙ length_exponents_4;
     terms = terms_are o ∙ (few_terms L.width L.outputs o.pair).0 w;
     few = omega arith;
   }
 
-  pub sized_6 : L.width ≡ 6 → Sized 6 18 (L.terms - 1) L
+  pub sized_6 : L.width ≡ 6 → Sized 18 (L.terms - 1) L
   sized_6 w = record {
-    known = refl;
-    listed = length_exponents_6;
-    powers = omega arith;
     own = exponents_are o ∙ ap (λ (n : ℕ). length (exponents n)) w ∙ length_exponents_6;
     terms = omega (arith, some_terms);
     few = omega (arith, terms_are o, few_terms L.width L.outputs o.pair);
   }
 
   -- the program of the code is that of the definition
-  pub rows_are_sbox : {n k h : ℕ} (s : ℕ) → L.width ≡ n → Sized n k h L → (cs x : List ℕ)
+  pub rows_are_sbox : {n k h : ℕ} (s : ℕ) → L.width ≡ n → Known n → length (exponents n) ≡ k + 1 → Sized k h L → (cs x : List ℕ)
       → sbox_rows n k h s L cs x ≡ sbox L.width s (basis_in L.width L.outputs cs) (solution_in L.width L.outputs cs) x
   unfolding basis_in solution_in basis_size
-  rows_are_sbox {n} {k} {h} s w z cs x =
+  rows_are_sbox {n} {k} {h} s w known listed z cs x =
       let size : terms_of L.width L.outputs - 1 ≡ h = omega (arith, terms_are o, z.terms) in
       let qs = tabulate h (polynomial_in L (basis_of L cs)) in
       let ps = tabulate (suc h) (polynomial_in L (solution_of L cs)) in
       let lq : length qs ≡ h = length_tabulate h (polynomial_in L (basis_of L cs)) in
       let lp : length ps ≡ suc h = length_tabulate (suc h) (polynomial_in L (solution_of L cs)) in
-      let range = width_range n z.known in
-      rows_same n s k h L cs qs ps (omega (arith, z.listed)) lq (omega arith) (omega (arith, z.powers, z.few))
+      let range = width_range n known in
+      rows_same n s k h L cs qs ps (omega (arith, listed)) lq (omega arith) z.few
       (λ i b. listed_at h (basis_of L cs) z.own i (omega arith)) (λ i b. listed_at (suc h) (solution_of L cs) z.own i (omega arith)) x
-      (omega arith) (omega arith) (class_of n z.known) (omega (arith, powers_made n z.known, z.listed))
+      (omega arith) (omega arith) (class_of n known) (omega (arith, powers_made n known, listed))
       ∙ ap (λ (m : ℕ). sbox m s qs ps x) (sym w)
       ∙ rw (← o.layout_is, size) refl
+
+  -- at either width
+  pub rows_are_sbox_4 : (s : ℕ) → L.width ≡ 4 → (cs x : List ℕ)
+      → sbox_rows 4 8 1 s L cs x ≡ sbox L.width s (basis_in L.width L.outputs cs) (solution_in L.width L.outputs cs) x
+  rows_are_sbox_4 s w = rows_are_sbox s w refl length_exponents_4 (sized_4 w)
+
+  pub rows_are_sbox_6 : (s : ℕ) → L.width ≡ 6 → (cs x : List ℕ)
+      → sbox_rows 6 18 (L.terms - 1) s L cs x ≡ sbox L.width s (basis_in L.width L.outputs cs) (solution_in L.width L.outputs cs) x
+  rows_are_sbox_6 s w = rows_are_sbox s w refl length_exponents_6 (sized_6 w)

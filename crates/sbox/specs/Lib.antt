@@ -5,5 +5,7 @@ pub mod Figures
 pub mod Experiment
 pub mod TableSteps
 pub mod Operations
+pub mod Passed
+pub mod Accepted
 pub mod Alike
 pub mod Chain

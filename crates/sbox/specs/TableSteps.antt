@@ -1,9 +1,7 @@
--- For inner contracts only. The steps of Sbox.antt as the code lays them out in its table of sharings: each is put into a row when it is made, first the
--- k powers, then the h polynomials q of the basis, then the h + 1 polynomials p. The product of a p and its q takes the row of the p.
+-- For inner contracts only. The steps of Sbox.antt as the code lays them out in its tables of sharings, each of which is put into a row when it is made: the
+-- k powers, the h polynomials q of the basis, and the h + 1 polynomials p. The product of a p and its q takes the row of the p.
 use Rattle.std.specs.Prelude.{◌≡◌, ◌≤◌, List, ℕ, ◌+◌, ◌-◌, ◌*◌, length, get_or, drop, take, set, replicate}
 use Rattle.xor.specs.Xor.{◌⊕◌}
-use Rattle.field.specs.Polynomial.{exponents}
-use Rattle.decomposition.specs.Layout.{Known}
 use Rattle.decomposition.specs.Record.{basis_of, solution_of}
 use Rattle.decomposition.specs.declared.layouts.Layout.{Layout}
 use Rattle.steps.specs.Program.{Run, return, one, ◌>>=◌, note, for}
@@ -48,17 +46,19 @@ power_rows n s t = do
 unfoldable pub coefficients_at : ℕ → List ℕ → ℕ → List ℕ
 coefficients_at e cs j = take e (drop (j * e) cs)
 
--- polynomial j goes to row z + j
-unfoldable pub polynomial_row : ℕ → ℕ → ℕ → List ℕ → ℕ → ℕ → List (List ℕ) → Run (List (List ℕ))
-polynomial_row n s e cs z j t = do
-  c ← polynomial n s t (coefficients_at e cs j)
-  return (set t (z + j) c)
+-- polynomial j, of the powers ws, goes to row j
+unfoldable pub polynomial_row : ℕ → ℕ → ℕ → List ℕ → List (List ℕ) → ℕ → List (List ℕ) → Run (List (List ℕ))
+polynomial_row n s e cs ws j t = do
+  c ← polynomial n s ws (coefficients_at e cs j)
+  return (set t j c)
 
 -- ---- products
 
--- product j, of the p in row p + j and the q in row q + j, goes to the row of the p
-unfoldable pub product_row : ℕ → ℕ → ℕ → ℕ → ℕ → List (List ℕ) → Run (List (List ℕ))
-product_row n s q p j t = multiply_rows n s (p + j) (q + j) (p + j) t
+-- product j, of the p and the q in row j of their tables, goes to the row of the p
+unfoldable pub product_row : ℕ → ℕ → List (List ℕ) → ℕ → List (List ℕ) → Run (List (List ℕ))
+product_row n s qs j ps = do
+  c ← product n s (nth ps j) (nth qs j)
+  return (set ps j c)
 
 -- ---- their sum
 
@@ -68,25 +68,21 @@ add_next ts i j u = note (one i) (u ⊕ share (nth ts (j + 1)) i)
 
 -- ---- the whole, of the polynomials that the coefficients cs at a layout L have
 
--- all rows, from a table whose row 0 is x
-unfoldable pub fill_rows : ℕ → ℕ → ℕ → ℕ → Layout → List ℕ → List (List ℕ) → Run (List (List ℕ))
-fill_rows n k h s L cs t = do
-  t₁ ← power_rows n s t
-  t₂ ← for 0 h (polynomial_row n s (k + 1) (basis_of L cs) k) t₁
-  t₃ ← for 0 (h + 1) (polynomial_row n s (k + 1) (solution_of L cs) (k + h)) t₂
-  for 0 h (product_row n s k (k + h)) t₃
+-- so many rows that are not made yet
+abbrev pub unmade : ℕ → List (List ℕ)
+unmade k = replicate k (replicate 9 0)
 
 -- the masked S-box of the sharing x: the sum of the products and the last p
 unfoldable pub sbox_rows : ℕ → ℕ → ℕ → ℕ → Layout → List ℕ → List ℕ → Run (List ℕ)
 sbox_rows n k h s L cs x = do
-  t ← fill_rows n k h s L cs (set (replicate 25 (replicate 9 0)) 0 x)
-  total s (drop (k + h) t) h
+  ws ← power_rows n s (set (unmade 18) 0 x)
+  qs ← for 0 h (polynomial_row n s (k + 1) (basis_of L cs) ws) (unmade 3)
+  ps ← for 0 (h + 1) (polynomial_row n s (k + 1) (solution_of L cs) ws) (unmade 4)
+  ts ← for 0 h (product_row n s qs) ps
+  total s ts h
 
--- what the code's sizes are of a layout: its width is n, it has k powers besides the constant's, and h + 1 terms
-pub record Sized (n k h : ℕ) (L : Layout) : Type 0 where
-  pub known : Known n
-  pub listed : length (exponents n) ≡ k + 1
-  pub powers : k ≤ 18
+-- the code's sizes of a layout: its polynomials have k coefficients besides the constant, and there are h + 1 terms
+pub record Sized (k h : ℕ) (L : Layout) : Type 0 where
   pub own : L.exponents ≡ k + 1
   pub terms : L.terms ≡ h + 1
   pub few : h ≤ 3

@@ -1,128 +1,89 @@
-// The run of a call, for the S-box and its watch.
-ghost use Rattle.std.specs.Prelude.{◌≡◌, ◌≤◌, List, [], ℕ, length};
-ghost use Rattle.steps.specs.Machine.{start_of, Ready, Went, Whole};
+// A call that passed the tests, and its runs: for the S-box and its watch.
+ghost use Rattle.std.specs.Prelude.{◌≡◌, ◌≤◌, length};
+ghost use Rattle.refusal.specs.Large.{first_large};
+ghost use Rattle.steps.specs.Machine.{Ready, Went, Whole};
 ghost use Rattle.steps.specs.Program.{result as result_of, trace};
-ghost use Rattle.steps.specs.Recorder.{AllBelow};
-ghost use Rattle.steps.specs.Tape.{elements};
 ghost use Rattle.steps.specs.Watch.{watched};
-ghost use Rattle.sbox.specs.Operations.{OfPair, layout_program};
+ghost use Rattle.sbox.specs.Passed.{Passed};
 
 use crate::evaluation::run;
 use decomposition::Record;
 use product::Sharing;
 use steps::machine::{Execution, Machine};
 use steps::recording::{Unwatched, Watch};
-use steps::{Counts, ShareCount};
+use steps::{Counts, ShareCount, padded};
 
-// The masked S-box of the shares that are lent.
-fn call<M: Machine>(
-    machine: &mut M,
-    s: ShareCount,
-    decomposition: Record<'_>,
-    shares: &[u8],
-) -> Sharing
-    requires of_pair { OfPair decomposition.layout }
-    requires few { length shares.now ≤ 9 }
-    requires ready { Ready (layout_program decomposition.layout decomposition.coefficients.now s.count shares.now) (M.state machine.old) }
-    ensures { Went (layout_program decomposition.entry.layout decomposition.entry.coefficients.now s.count shares.now)
-        (M.state machine.old) result (M.state machine.new) }
-{
-    let mut x = [0u8; 9];
-    x[..shares.len()].copy_from_slice(shares);
-    run(machine, s, decomposition, &x)
+// A call that passed the tests. It is no `Ciphering` of crates/steps: it has one string of shares, and the bits of its random elements are known only with its
+// record.
+#[derive(Clone, Copy)]
+pub struct AcceptedCall<'a> {
+    pub record: Record<'a>,
+    pub count: ShareCount,
+    pub shares: &'a [u8],
+    pub random: &'a [u8],
+    pub ghost passed: { Passed record.layout record.coefficients.now count.count shares.now random.now },
 }
 
-// A call that nobody watches, with random elements of so many bits.
-fn unwatched_at<const WIDTH: u32>(
-    s: ShareCount,
-    decomposition: Record<'_>,
-    shares: &[u8],
-    random: &[u8],
-) -> (Sharing, Counts)
-    requires of_pair { OfPair decomposition.layout }
-    requires few { length shares.now ≤ 9 }
-    requires ready { Ready (layout_program decomposition.layout decomposition.coefficients.now s.count shares.now)
-        (start_of (elements WIDTH random.now) [] []) }
-    ensures { Whole (elements WIDTH random.now) (layout_program decomposition.entry.layout decomposition.entry.coefficients.now s.count shares.now) result.0 result.1 }
-{
-    let mut machine = Execution::<WIDTH, Unwatched>::new(random, Unwatched);
-    let result = call(&mut machine, s, decomposition, shares);
-    (result, machine.counts)
-}
+impl AcceptedCall<'_> {
+    ghost use Rattle.sbox.specs.Accepted.{program_of, tape_of, steps_of};
 
-// A call that nobody watches: the shares of its result, and its counts.
-pub fn unwatched(
-    s: ShareCount,
-    decomposition: Record<'_>,
-    shares: &[u8],
-    random: &[u8],
-) -> (Sharing, Counts)
-    requires of_pair { OfPair decomposition.layout }
-    requires few { length shares.now ≤ 9 }
-    requires ready { Ready (layout_program decomposition.layout decomposition.coefficients.now s.count shares.now)
-        (start_of (elements decomposition.layout.width random.now) [] []) }
-    ensures { Whole (elements decomposition.entry.layout.width random.now)
-        (layout_program decomposition.entry.layout decomposition.entry.coefficients.now s.count shares.now) result.0 result.1 }
-{
-    if decomposition.layout.width == 4 {
-        unwatched_at::<4>(s, decomposition, shares, random)
-    } else {
-        unwatched_at::<6>(s, decomposition, shares, random)
+    // The masked S-box of its shares.
+    fn substitute<M: Machine>(&self, machine: &mut M) -> Sharing
+        requires { Ready (program_of self.now) (M.state machine.old) }
+        ensures { Went (program_of self.now) (M.state machine.old) result (M.state machine.new) }
+    {
+        let x = padded(self.shares);
+        run(machine, self.count, self.record, &x)
     }
-}
 
-// A call that is watched, with random elements of so many bits: the values at the steps of the list are written, and the counts handed back.
-fn watched_at<const WIDTH: u32>(
-    s: ShareCount,
-    decomposition: Record<'_>,
-    shares: &[u8],
-    random: &[u8],
-    list: &[u32],
-    values: &mut [u8],
-) -> Counts
-    requires of_pair { OfPair decomposition.layout }
-    requires few { (length shares.now ≤ 9) × (length list.now ≤ 64) × (length list.now ≡ length values.old) }
-    requires ready { (vs : List ℕ) → length list.now ≡ length vs
-        → Ready (layout_program decomposition.layout decomposition.coefficients.now s.count shares.now) (start_of (elements WIDTH random.now) list.now vs) }
-    requires below { AllBelow (length (trace (layout_program decomposition.layout decomposition.coefficients.now s.count shares.now) (elements WIDTH random.now))) list.now }
-    ensures counts { Whole (elements WIDTH random.now) (layout_program decomposition.entry.layout decomposition.entry.coefficients.now s.count shares.now)
-        (result_of (layout_program decomposition.entry.layout decomposition.entry.coefficients.now s.count shares.now) (elements WIDTH random.now)) result }
-    ensures values { values.new
-        ≡ watched list.now (trace (layout_program decomposition.entry.layout decomposition.entry.coefficients.now s.count shares.now) (elements WIDTH random.now)) }
-{
-    let mut machine = Execution::<WIDTH, Watch>::new(random, Watch::new(list));
-    call(&mut machine, s, decomposition, shares);
-    machine.recorder.copy_to(values);
-    machine.counts
-}
+    // A run that nobody watches, with random elements of so many bits. Each recorder is named where its run is made: over a recorder that is left open
+    // the size of an `Execution` would have to be asked for in a clause.
+    fn unwatched_at<const WIDTH: u32>(&self) -> (Sharing, Counts)
+        requires { self.now.record.layout.width ≡ WIDTH }
+        ensures { Whole (tape_of self.now) (program_of self.now) result.0 result.1 }
+    {
+        let mut machine = Execution::<WIDTH, Unwatched>::new(self.random, Unwatched);
+        let result = self.substitute(&mut machine);
+        (result, machine.counts)
+    }
 
-// A call that is watched.
-pub fn watched(
-    s: ShareCount,
-    decomposition: Record<'_>,
-    shares: &[u8],
-    random: &[u8],
-    list: &[u32],
-    values: &mut [u8],
-) -> Counts
-    requires of_pair { OfPair decomposition.layout }
-    requires few { (length shares.now ≤ 9) × (length list.now ≤ 64) × (length list.now ≡ length values.old) }
-    requires ready { (vs : List ℕ) → length list.now ≡ length vs
-        → Ready (layout_program decomposition.layout decomposition.coefficients.now s.count shares.now)
-        (start_of (elements decomposition.layout.width random.now) list.now vs) }
-    requires below { AllBelow (length (trace (layout_program decomposition.layout decomposition.coefficients.now s.count shares.now)
-        (elements decomposition.layout.width random.now))) list.now }
-    ensures counts { Whole (elements decomposition.entry.layout.width random.now)
-        (layout_program decomposition.entry.layout decomposition.entry.coefficients.now s.count shares.now)
-        (result_of (layout_program decomposition.entry.layout decomposition.entry.coefficients.now s.count shares.now)
-        (elements decomposition.entry.layout.width random.now)) result }
-    ensures values { values.new
-        ≡ watched list.now (trace (layout_program decomposition.entry.layout decomposition.entry.coefficients.now s.count shares.now)
-        (elements decomposition.entry.layout.width random.now)) }
-{
-    if decomposition.layout.width == 4 {
-        watched_at::<4>(s, decomposition, shares, random, list, values)
-    } else {
-        watched_at::<6>(s, decomposition, shares, random, list, values)
+    // A run that nobody watches: the shares of its result, and its counts.
+    pub fn unwatched(&self) -> (Sharing, Counts)
+        ensures { Whole (tape_of self.now) (program_of self.now) result.0 result.1 }
+    {
+        if self.record.layout.width == 4 {
+            self.unwatched_at::<4>()
+        } else {
+            self.unwatched_at::<6>()
+        }
+    }
+
+    // A run that is watched, with random elements of so many bits: the values at the steps of the list are written, and the counts handed back.
+    // List and values are the caller's, as in C.
+    fn watched_at<const WIDTH: u32>(&self, list: &[u32], values: &mut [u8]) -> Counts
+        requires width { self.now.record.layout.width ≡ WIDTH }
+        requires places { (length list.now ≤ 64) × (length list.now ≡ length values.old) }
+        requires below { length list.now ≤ first_large (steps_of self.now) list.now }
+        ensures counts { Whole (tape_of self.now) (program_of self.now) (result_of (program_of self.now) (tape_of self.now)) result }
+        ensures values { values.new ≡ watched list.now (trace (program_of self.now) (tape_of self.now)) }
+    {
+        let mut machine = Execution::<WIDTH, Watch>::new(self.random, Watch::new(list));
+        self.substitute(&mut machine);
+        machine.recorder.copy_to(values);
+        machine.counts
+    }
+
+    // A run that is watched.
+    pub fn watched(&self, list: &[u32], values: &mut [u8]) -> Counts
+        requires places { (length list.now ≤ 64) × (length list.now ≡ length values.old) }
+        requires below { length list.now ≤ first_large (steps_of self.now) list.now }
+        ensures counts { Whole (tape_of self.now) (program_of self.now) (result_of (program_of self.now) (tape_of self.now)) result }
+        ensures values { values.new ≡ watched list.now (trace (program_of self.now) (tape_of self.now)) }
+    {
+        if self.record.layout.width == 4 {
+            self.watched_at::<4>(list, values)
+        } else {
+            self.watched_at::<6>(list, values)
+        }
     }
 }

@@ -6,7 +6,6 @@ ghost use Rattle.steps.specs.Taken.{handed};
 ghost use Rattle.sbox.specs.Operations.{sbox_outcome, sbox_output};
 
 use crate::arguments::accept;
-use crate::calling::unwatched;
 use refusal::Refusal;
 use steps::Taken;
 
@@ -24,8 +23,8 @@ pub fn sbox(
         (sbox_output bytes.now s shares.now random.now) out.old (report handed result) out.new }
 {
     let fits = out.len() == s as usize;
-    let (record, count) = accept(bytes, s, shares, random, fits)?;
-    let (result, counts) = unwatched(count, record, shares, random);
+    let call = accept(bytes, s, shares, random, fits)?;
+    let (result, counts) = call.unwatched();
     out.copy_from_slice(&result[..out.len()]);
-    Ok(counts.taken(record.layout.width))
+    Ok(counts.taken(call.record.layout.width))
 }

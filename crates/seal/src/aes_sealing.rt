@@ -1,5 +1,6 @@
 // Part 5: a block of AES-128.
 use crate::example;
+use crate::operations::Operation;
 use crate::parts::{PartError, named};
 use crate::showing::{Expected, show_call, show_split};
 use aes::block as aes_block;
@@ -32,7 +33,7 @@ pub fn part(rt: &impl Print) -> Result<(), PartError> {
     split_both(rt, &mut key, &mut block)?;
     println!(rt)?;
     let sealed = aes_block(example::SHARES, &key, &block, &random, &mut out);
-    let taken = named("AES block", sealed)?;
+    let taken = named(Operation::AesBlock, sealed)?;
     show_call(
         rt,
         taken,

@@ -4,12 +4,6 @@ use std::array;
 // How many shares the example uses.
 pub const SHARES: u32 = 3;
 
-// PRESENT's S-box.
-pub const TABLE: [u8; 16] = [12, 5, 6, 11, 9, 0, 10, 13, 3, 14, 15, 8, 4, 7, 1, 2];
-
-// Its inverse.
-pub const INVERSE: [u8; 16] = [5, 14, 15, 8, 12, 1, 2, 13, 11, 4, 6, 3, 0, 7, 9, 10];
-
 // A published vector of PRESENT-80: a key of ones and a block of zeros.
 pub const KEY: [u8; 10] = [0xff, 0xff, 0xff, 0xff, 0xff, 0xff, 0xff, 0xff, 0xff, 0xff];
 

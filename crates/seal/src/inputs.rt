@@ -1,4 +1,4 @@
-// What a masked call of PRESENT-80 is given.
+// What a masked call of PRESENT-80 is given on this page: three shares and a record throughout. The operations take each by itself, as C passes them.
 use crate::example::SHARES;
 use cipher::{block, open, watch_block};
 use refusal::Refusal;

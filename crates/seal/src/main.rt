@@ -6,6 +6,7 @@ mod example;
 mod fitting;
 mod inputs;
 mod opening;
+mod operations;
 mod parts;
 mod sealing;
 mod sharing;

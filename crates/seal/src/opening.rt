@@ -2,8 +2,10 @@
 use crate::example;
 use crate::fitting::show_fit;
 use crate::inputs::Inputs;
+use crate::operations::Operation;
 use crate::parts::{PartError, named};
 use crate::showing::{Expected, Hex, show_call, show_split};
+use cipher::opening::INVERSE;
 use std::io;
 
 // Says what an opening takes.
@@ -16,7 +18,7 @@ fn introduce(rt: &impl Print) -> io::Result<()> {
 
 // Fits the inverse table, and prints it and its record.
 fn fit_inverse(rt: &impl Print, inverse: &mut [u8; 34]) -> Result<(), PartError> {
-    let table = example::INVERSE;
+    let table = INVERSE;
     println!(rt; "    inverse {}", Hex(&table))?;
     show_fit(rt, &table, inverse)
 }
@@ -30,7 +32,7 @@ fn show_opened(rt: &impl Print, inputs: Inputs, inverse: &[u8]) -> Result<(), Pa
         value: example::BLOCK,
     };
     println!(rt)?;
-    let taken = named("Open", inputs.open(inverse, &mut out))?;
+    let taken = named(Operation::Open, inputs.open(inverse, &mut out))?;
     show_call(rt, taken, &out, &expected)
 }
 

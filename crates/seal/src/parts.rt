@@ -1,4 +1,5 @@
 // How a part of the page ends.
+use crate::operations::Operation;
 use refusal::Refusal;
 use std::io;
 use thiserror::Error;
@@ -8,7 +9,7 @@ use thiserror::Error;
 pub enum PartError {
     #[error("{operation} refused: {refusal} (docs/FORMATS.md, Refusals). This part stops here.")]
     Refused {
-        operation: &'static str,
+        operation: Operation,
         refusal: Refusal,
     },
     #[error(transparent)]
@@ -16,7 +17,7 @@ pub enum PartError {
 }
 
 // What an operation answers, where a refusal gets the operation's name.
-pub fn named<T>(operation: &'static str, outcome: Result<T, Refusal>) -> Result<T, PartError> {
+pub fn named<T>(operation: Operation, outcome: Result<T, Refusal>) -> Result<T, PartError> {
     outcome.map_err(|refusal| PartError::Refused { operation, refusal })
 }
 

@@ -2,6 +2,7 @@
 ghost use Rattle.std.specs.Prelude.{◌<◌};
 
 use crate::example::SHARES;
+use crate::operations::Operation;
 use crate::parts::{PartError, named};
 use std::{fmt, io};
 use steps::{Taken, join, split};
@@ -59,7 +60,7 @@ pub fn show_split<const N: usize>(
     requires { 0 < N }
 {
     println!(rt; "{label}{}", Hex(&value))?;
-    named("Split", split(&value, SHARES, masks, &mut *shares))?;
+    named(Operation::Split, split(&value, SHARES, masks, &mut *shares))?;
     show_shares(rt, N, shares)?;
     Ok(())
 }
@@ -81,7 +82,7 @@ fn show_joined<const N: usize>(
     let Expected { name, label, value } = *expected;
     let mut sum = [0u8; N];
     println!(rt; "\nJoin adds these shares up. Below stands {name}.\n")?;
-    named("Join", join(shares, SHARES, &mut sum))?;
+    named(Operation::Join, join(shares, SHARES, &mut sum))?;
     println!(rt; "    joined    {}", Hex(&sum))?;
     println!(rt; "    {label:<10}{}", Hex(&value))?;
     if sum == value {

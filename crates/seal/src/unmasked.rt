@@ -1,5 +1,6 @@
 // Part 6: the same block without masking.
 use crate::example;
+use crate::operations::Operation;
 use crate::parts::{PartError, named};
 use crate::showing::Hex;
 use std::io;
@@ -22,9 +23,9 @@ pub fn part(rt: &impl Print) -> Result<(), PartError> {
     introduce(rt)?;
     println!(rt; "    key      {}", Hex(&key))?;
     println!(rt; "    block    {}", Hex(&block))?;
-    named("Encrypt", encrypt(&key, &block, &mut ciphertext))?;
+    named(Operation::Encrypt, encrypt(&key, &block, &mut ciphertext))?;
     println!(rt; "    encrypted{}", Hex(&ciphertext))?;
-    named("Decrypt", decrypt(&key, &ciphertext, &mut back))?;
+    named(Operation::Decrypt, decrypt(&key, &ciphertext, &mut back))?;
     println!(rt; "    decrypted{}", Hex(&back))?;
     Ok(())
 }

@@ -1,6 +1,7 @@
 // Part 4: a few steps watched.
 use crate::example::WATCHED;
 use crate::inputs::Inputs;
+use crate::operations::Operation;
 use crate::parts::{PartError, named};
 use std::io;
 
@@ -35,7 +36,7 @@ pub fn part(rt: &impl Print, inputs: Inputs) -> Result<(), PartError> {
     let mut values = [0u8; 7];
     println!(rt; "\n4. A few steps watched\n")?;
     name_steps(rt)?;
-    named("Watch block", inputs.watch(&list, &mut values))?;
+    named(Operation::WatchBlock, inputs.watch(&list, &mut values))?;
     show_steps(rt, &list, &values)?;
     judge_steps(rt)?;
     Ok(())

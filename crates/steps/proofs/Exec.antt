@@ -73,6 +73,9 @@ recorded_end (x ∷ xs) (suc i) h s = recorded_end xs i (omega arith) s
 pub recorded_places : (v : ℕ) (s : State) {s' : State} → s' ≡ recorded v s → length s.watch ≡ length s.values → length s'.watch ≡ length s'.values
 recorded_places v s e p = rw e (p ∙ sym (length_seen s.watch s.counts.steps v s.values p))
 
+-- what a loop that records a list is proved by
+pub ruleset recordings = (recorded_next, recorded_end, recorded_places)
+
 -- ---- a run as a whole
 
 first_drop : (d : ℕ) (tape : List ℕ) → first (drop d tape) ≡ get_or tape d 0
@@ -122,6 +125,10 @@ exec_whole (mark m) s =
     let l = length (products s.counts.steps m (drop s.counts.random s.tape)) in
     let p : s.counts.products + suc l ≡ s.counts.products + 1 + l = omega arith in
     exec_whole m (begun s) ∙ rw p
+
+-- where a program has ended, its result
+pub went_result : {A : Type 0} (m : Run A) {s s' : State} {x : A} → Went m s x s' → x ≡ result m (drop s.counts.random s.tape)
+went_result {A} m {s} w = ap (λ (e : Ended A). e.result) (sym w.runs ∙ exec_whole m s)
 
 -- ---- a run from the start, said of its program
 

@@ -5,10 +5,10 @@ use Prim.Native.Nat.{ℕ, zero, suc, ◌+◌, ◌-◌, ◌≤◌, ◌<◌}
 use native.Mathlib.Nat.{not-suc-le-zero, le_of_suc-le-suc}
 use native.Mathlib.Numerals.{add-one}
 use native.Mathlib.Omega.{arith}
-use lib.ListN.{length, get_or, drop, set, length-append, length-drop, drop_of_length-le, get_or-append}
+use lib.ListN.{length, get_or, drop, set, replicate, length-append, length-drop, drop_of_length-le, get_or-append}
 use lib.Seq.{drop-cons, set_at, get_or-append-add, get_or-drop}
-use Rattle.std.proofs.lemmas.List.{length-reverse, get_or-reverse}
-use Rattle.steps.specs.Fill.{tabulate, fill}
+use Rattle.std.proofs.lemmas.List.{length-reverse, get_or-reverse, drop-replicate}
+use Rattle.steps.specs.Fill.{tabulate, fill, padded}
 
 module _ {B : Type 0} where
   pub length_tabulate : (n : ℕ) (f : ℕ → B) → length (tabulate n f) ≡ n
@@ -69,6 +69,10 @@ unfolding fill
 fill_more n f l h =
     rw (drop-cons l n 0 h, add-one n, tabulate_last n f, append_assoc) (set_at (tabulate n f) (get_or l n 0) (drop (suc n) l) (f n) n (length_tabulate n f))
 
+-- one turn of a loop that fills it
+pub fill_turn : (n : ℕ) (f : ℕ → ℕ) (l m : List ℕ) (v : ℕ) → m ≡ fill n f l → v ≡ f n → n < length l → set m n v ≡ fill (n + 1) f l
+fill_turn n f l m v e g h = rw (e, g) (fill_more n f l h)
+
 pub fill_all : (n : ℕ) (f : ℕ → ℕ) (l : List ℕ) → length l ≤ n → fill n f l ≡ tabulate n f
 unfolding fill
 fill_all n f l h = rw (drop_of_length-le l h, append-nil)
@@ -92,3 +96,10 @@ get_or_fill_past n f l i d h =
     ∙ get_or-append-add (tabulate n f) (drop n l) (i - n) d
     ∙ get_or-drop n l (i - n) d
     ∙ ap (λ (p : ℕ). get_or l p d) back
+
+-- a list that is copied to the start of zeros
+pub padded_copy : (n : ℕ) (l : List ℕ) → l ++ drop (length l) (replicate n 0) ≡ padded n l
+padded_copy n l = ap (λ (z : List ℕ). l ++ z) (drop-replicate (length l) n 0)
+
+-- what a loop that fills a buffer is proved by
+pub ruleset fills = (fill_none, fill_turn, length_fill)

@@ -27,3 +27,6 @@ pub mod ShareBytes
 pub mod Settled
 pub mod Chosen
 pub mod Operations
+pub mod Counted
+pub mod Ciphering
+pub mod CipheringChoices

@@ -12,7 +12,7 @@ use lib.ListN.{length, get_or, length-append, get_or-append}
 use lib.Seq.{get_or-append-add}
 use Rattle.xor.specs.Xor.{◌⊕◌}
 use Rattle.xor.specs.Sum.{join}
-use Rattle.xor.proofs.Xor.{⊕-zero, zero_⊕, ⊕-assoc}
+use Rattle.xor.proofs.Xor.{⊕-zero, zero_⊕, ⊕-assoc, ⊕-is}
 use Rattle.xor.proofs.Sum.{join_nil, join_cons, join_split}
 use Rattle.refusal.specs.Outcome.{done}
 use Rattle.refusal.specs.Range.{one_to}
@@ -57,6 +57,9 @@ column_more l n at k = rw (add-one k) (go at k)
         ∙ ap (λ (x : ℕ). get_or l at 0 ⊕ x) (go (at + n) k)
         ∙ sym (⊕-assoc (get_or l at 0) (join (column l n (at + n) k)) (get_or l (at + n + k * n) 0))
         ∙ ap₂ ◌⊕◌ (sym (join_cons (get_or l at 0) (column l n (at + n) k))) (ap (λ (p : ℕ). get_or l p 0) next)
+
+-- what a loop over a column is proved by
+pub ruleset columns = (⊕-is, column_none, column_more)
 
 -- ---- what Split writes
 

@@ -7,8 +7,8 @@ use native.Mathlib.Numerals.{add-one}
 use native.Mathlib.Omega.{arith}
 use borrow.Author.Tests.{eq-eqb, ne_eqb, eqb-true, eqb-false}
 use lib.Dec.{eqb}
-use lib.ListN.{length, get_or, take, drop, set, drop_of_length-le}
-use lib.Seq.{drop-cons, take-suc, take-suc-set, drop-set-lt, take_all}
+use lib.ListN.{length, get_or, take, drop, set, length-set, drop_of_length-le}
+use lib.Seq.{drop-cons, take-suc, take-suc-set, drop-set-lt, take_all, set-get_or}
 use Rattle.steps.specs.Program.{Entry}
 use Rattle.steps.specs.Watch.{values, watched}
 use Rattle.steps.specs.Recorder.{seen, observed, AllBelow}
@@ -43,17 +43,8 @@ module _ (watch : List ℕ) (k v : ℕ) (vs : List ℕ) (i : ℕ) (hw : i < leng
   unfolding seen_from
   seen_pass e = rw (add-one, take-suc vs i 0 hv, seen_at, ne_eqb (get_or watch i 0) k e, append_assoc)
 
--- ---- several steps in a row
-
--- one turn of the loop that records them, and its end
-pub observed_turn : (watch : List ℕ) (k : ℕ) (es vs : List ℕ) (i : ℕ) → i < length es
-    → observed watch k (drop i es) vs ≡ observed watch (k + 1) (drop (i + 1) es) (seen watch k (get_or es i 0) vs)
-unfolding observed
-observed_turn watch k es vs i h = rw (add-one i, drop-cons es i 0 h)
-
-pub observed_end : (watch : List ℕ) (k : ℕ) (es vs : List ℕ) (i : ℕ) → length es ≤ i → observed watch k (drop i es) vs ≡ vs
-unfolding observed
-observed_end watch k es vs i h = rw (drop_of_length-le es h)
+-- what a loop over the places is proved by
+pub ruleset places_seen = (seen_none, seen_all, seen_match, seen_pass, length-set, set-get_or)
 
 -- ---- a whole trace: at each place the value of the step watched there
 

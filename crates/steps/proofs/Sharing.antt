@@ -103,6 +103,12 @@ share_zeros zero j = refl
 share_zeros (suc k) zero = refl
 share_zeros (suc k) (suc j) = share_zeros k j
 
+-- zeros past the end of a list change no share
+pub share_padded : (a : List ℕ) (k i : ℕ) → share (a ++ replicate k 0) i ≡ share a i
+share_padded [] k i = share_zeros k i
+share_padded (x ∷ a) k zero = refl
+share_padded (x ∷ a) k (suc i) = share_padded a k i
+
 pub small_zeros : (n k : ℕ) → Small n (replicate k 0)
 small_zeros n k i = rw (share_zeros k i) (pow_pos n)
 

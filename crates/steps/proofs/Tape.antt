@@ -109,6 +109,15 @@ module _ (width at : ℕ) (bytes : List ℕ) where
           rw (e, f, whole, none) (omega (arith, small at))
 
 -- as many bytes as hold so many elements give them
+-- where two elements lie in a byte, each pair spares one
+pub bytes_saved : (width count more : ℕ) → more ≡ cond (eqb width 4) 1 0 → count - more * (count / 2) ≡ bytes_for width count
+unfolding bytes_for
+bytes_saved width count more = go (eqb width 4)
+  where
+    go : (b : Bool) → more ≡ cond b 1 0 → count - more * (count / 2) ≡ cond b ((count + 1) / 2) count
+    go true e = rw e (omega arith)
+    go false e = rw e (omega arith)
+
 pub elements_enough : (width : ℕ) (bytes : List ℕ) (count : ℕ) → length bytes ≡ bytes_for width count → count ≤ length (elements width bytes)
 unfolding elements bytes_for
 elements_enough width bytes count = go (eqb width 4)

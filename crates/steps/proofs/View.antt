@@ -1,25 +1,24 @@
 -- The laws of sharings in bytes: their shares, and sharings that are made share by share.
 use mathlib.Core.Path.{◌≡◌, refl, sym, ap, ap₂, ◌∙◌}
 use mathlib.Core.List.{List, map}
-use Prim.Native.Nat.{ℕ, zero, suc, ◌+◌, ◌*◌, ◌≤◌, ◌<◌}
-use native.Mathlib.Nat.{zero-add}
+use Prim.Native.Nat.{ℕ, zero, suc, ◌+◌, ◌-◌, ◌*◌, ◌≤◌, ◌<◌}
 use native.Mathlib.Decide.{dec_lt, ℕ_discrete}
 use native.Mathlib.Omega.{arith}
-use lib.ListN.{length, get_or, replicate, length-replicate, length-map, get_or-eq_default}
-use lib.Seq.{paste, ext_get_or}
+use lib.ListN.{length, get_or, replicate, length-map, get_or-eq_default}
+use lib.Seq.{ext_get_or}
 use Rattle.xor.specs.Xor.{◌⊕◌}
 use Rattle.xor.proofs.Xor.{⊕-zero}
 use Rattle.xor.proofs.Sum.{additive_below_zero}
-use Rattle.steps.specs.Fill.{tabulate}
-use Rattle.steps.specs.Sharing.{share, Filled}
-use Rattle.steps.proofs.Fill.{length_tabulate, get_d_tabulate, tabulate_same}
-use Rattle.steps.proofs.Sharing.{share_zeros}
+use Rattle.steps.specs.Fill.{tabulate, fill, padded}
+use Rattle.steps.specs.Sharing.{share}
+use Rattle.steps.proofs.Fill.{length_tabulate, get_d_tabulate, tabulate_same, length_fill, get_or_fill, get_or_fill_past}
+use Rattle.steps.proofs.Sharing.{share_zeros, share_padded}
 use Rattle.steps.specs.Bytes.{from_bytes}
 use Rattle.steps.specs.Linear.{Linear, LinearPair}
 use Rattle.steps.specs.Sharing.{share_wise, alone, held}
 use Rattle.steps.proofs.ShareWise.{share_map, length_share_wise, share_share_wise, linear_zero, sum_linear, share_held, length_held}
 use Rattle.steps.specs.ShareBytes.{share_at, shares_of, sharing, Changed, ZeroPast, KeptPast}
-use Rattle.steps.proofs.Number.{number_same, paste_there, paste_after}
+use Rattle.steps.proofs.Number.{number_same}
 use Rattle.steps.proofs.Past.{changed_others, kept_same, kept_then, changed_kept}
 
 -- ---- shares given by a function, held in nine places
@@ -43,8 +42,10 @@ module _ (s : ℕ) (nine : s ≤ 9) where
       go i (yes l) = h i l ∙ sym (share_given f i l)
       go i (no l) = k i (omega arith) ∙ sym (share_past f i (omega arith))
 
-  pub filled_given : {f : ℕ → ℕ} {a : List ℕ} → Filled f s a → a ≡ held (tabulate s f)
-  filled_given {f} {a} h = is_given f a h.places h.filled h.past
+  pub fill_given : (f : ℕ → ℕ) → fill s f (replicate 9 0) ≡ held (tabulate s f)
+  fill_given f =
+      is_given f (fill s f (replicate 9 0)) (length_fill s f (replicate 9 0) nine) (λ i h. get_or_fill s f (replicate 9 0) i 0 h)
+      (λ i h. get_or_fill_past s f (replicate 9 0) i 0 h ∙ share_zeros 9 i)
 
   -- a linear map of each share
   pub map_given : {m n : ℕ} {g : ℕ → ℕ} → Linear m n g → (f : ℕ → ℕ) → map g (held (tabulate s f)) ≡ held (tabulate s (λ i. g (f i)))
@@ -127,24 +128,9 @@ unfolding sharing shares_of share_at
 same_bytes w s l m h =
     ap held (tabulate_same s (share_at w l) (share_at w m) (λ i k. ap from_bytes (number_same (w * i) w m l (λ j g. h (w * i + j)))))
 
--- what is copied to the start of zeros
-loaded_bytes : (n : ℕ) (l : List ℕ) → length l ≤ n → (p : ℕ) → get_or (paste (replicate n 0) 0 l (length l)) p 0 ≡ get_or l p 0
-loaded_bytes n l k p = go p (dec_lt p (length l))
-  where
-    zeros : List ℕ
-    zeros = replicate n 0
+-- bytes in an array that has room for more
+pub sharing_padded : (w s n : ℕ) (l : List ℕ) → sharing w s (padded n l) ≡ sharing w s l
+sharing_padded w s n l = same_bytes w s (padded n l) l (share_padded l (n - length l))
 
-    room : 0 + length l ≤ length zeros
-    room = omega (arith, length-replicate {A = ℕ} n 0)
-
-    go : (p : ℕ) → Dec (p < length l) → get_or (paste zeros 0 l (length l)) p 0 ≡ get_or l p 0
-    go p (yes h) =
-        ap (λ (j : ℕ). get_or (paste zeros 0 l (length l)) j 0) (sym (zero-add p)) ∙ paste_there zeros 0 l (length l) room (omega arith) p h
-    go p (no h) =
-        paste_after zeros 0 l (length l) room (omega arith) p (omega arith) ∙ share_zeros n p ∙ sym (get_or-eq_default l 0 {n = p} (omega arith))
-
-pub sharing_loaded : (w s n : ℕ) (l : List ℕ) → length l ≤ n → sharing w s (paste (replicate n 0) 0 l (length l)) ≡ sharing w s l
-sharing_loaded w s n l k = same_bytes w s (paste (replicate n 0) 0 l (length l)) l (loaded_bytes n l k)
-
-pub zero_loaded : (w s n : ℕ) (l : List ℕ) → length l ≤ n → length l ≤ w * s → ZeroPast w s (paste (replicate n 0) 0 l (length l))
-zero_loaded w s n l k h = record { zeros = λ j f. loaded_bytes n l k j ∙ get_or-eq_default l 0 {n = j} (omega arith) }
+pub zero_padded : (w s n : ℕ) (l : List ℕ) → length l ≤ w * s → ZeroPast w s (padded n l)
+zero_padded w s n l h = record { zeros = λ j f. share_padded l (n - length l) j ∙ get_or-eq_default l 0 {n = j} (omega arith) }

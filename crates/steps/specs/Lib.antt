@@ -20,3 +20,4 @@ pub mod Bytes
 pub mod ShareBytes
 pub mod Settled
 pub mod Operations
+pub mod Ciphering

@@ -15,7 +15,7 @@ pub struct Counts {
 }
 
 impl Counts {
-    // Those at the start of a run.
+    // Those at the start of a run, by the definition's name. (`Default` would say so through a ghost member.)
     pub fn zero() -> Counts
         ensures { result ≡ zero_counts }
     {
@@ -38,7 +38,7 @@ impl Counts {
     }
 }
 
-// What a masked call has taken: masked products, random bytes and steps.
+// What a masked call has taken: masked products, random bytes and steps. It is no `Counts`, whose random elements are not counted in bytes.
 #[derive(Clone, Copy, Debug, PartialEq, Eq)]
 pub struct Taken {
     pub products: usize,

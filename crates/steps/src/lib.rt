@@ -2,9 +2,11 @@
 // The operations Split and Join are `splitting::split` and `joining::join`.
 #![tactic(auto)]
 
+pub mod calling;
 mod columns;
 pub mod counts;
 pub mod drawing;
+pub mod filling;
 pub mod joining;
 pub mod machine;
 pub mod recording;
@@ -12,7 +14,8 @@ pub mod share_count;
 pub mod splitting;
 
 pub use counts::{Counts, Taken};
-pub use drawing::{bytes_for, draw, first_large_element};
+pub use drawing::{bytes_for, draw, refuse_large_random};
+pub use filling::{filled, padded};
 pub use joining::join;
 pub use share_count::ShareCount;
 pub use splitting::split;

@@ -7,7 +7,8 @@ use crate::counts::Counts;
 use crate::drawing::draw;
 use crate::recording::Recorder;
 
-// A machine: a masked computation draws its random elements from it and has it record its steps. That a computation takes the steps of a program is
+// A machine: a masked computation draws its random elements from it and has it record its steps. The share count goes beside it: programs are defined for
+// a share count, and with one in the machine each contract would say that it is kept. That a computation takes the steps of a program is
 // said of the machine's state, before and after.
 pub trait Machine {
     ghost state: { Self → State };
@@ -24,6 +25,7 @@ pub trait Machine {
         ensures { state self.new ≡ recorded v (state self.old) };
 
     // The next steps record these elements, in order.
+    #[tactic(auto, using(crate::proofs::Exec::recordings))]
     fn record_all(&mut self, elements: &[u8])
         requires { ((state self.old).counts.steps + length elements.now < 2 ^ 32) × (length (state self.old).watch ≡ length (state self.old).values) }
         ensures { state self.new ≡ recorded_all elements.now (state self.old) }
@@ -39,7 +41,7 @@ pub trait Machine {
         ensures { state self.new ≡ begun (state self.old) };
 }
 
-// A run on lent random elements of so many bits, under a recorder.
+// A run on lent random elements of so many bits, under a recorder. It counts what it takes: a recorder is told a step's number, and need not count.
 #[derive(Drop)]
 pub struct Execution<'a, const WIDTH: u32, R> {
     pub random: &'a [u8],

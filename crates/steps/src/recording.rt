@@ -69,14 +69,15 @@ impl Recorder for Watch<'_> {
     }
 }
 
-// v goes to each place whose watched number is `step`.
+// v goes to each place whose watched number is `step`. By index over the list: nothing is known of what `iter_mut` writes under a `zip`.
+#[tactic(auto, using(crate::proofs::Recorder::places_seen))]
 fn observe(list: &[u32], values: &mut [u8], step: u32, v: u8)
     requires { length list.now ≡ length values.old }
     ensures { values.new ≡ seen list.now step v values.old }
 {
-    for k in 0..list.len() {
+    for (k, value) in values.iter_mut().enumerate() {
         if list[k] == step {
-            values[k] = v;
+            *value = v;
         }
     }
 }

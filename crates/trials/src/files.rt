@@ -1,5 +1,6 @@
 // Trying the cases of a file, and what is printed of it.
 use crate::fields::{FieldError, Fields};
+use std::alloc::Global;
 use std::rt::Files;
 use std::{fmt, fs, io};
 use thiserror::Error;
@@ -49,18 +50,20 @@ impl fmt::Display for Tally {
 
 // Tries every case of a file. It begins with the number of cases.
 fn try_cases<F: Fn(&mut Fields) -> Result<bool, FieldError>>(
-    mut fields: Fields,
+    alloc: Global,
+    file: &[u8],
     trial: F,
 ) -> Result<Tally, FileError>
     requires { F.IsAlwaysCallable trial }
 {
+    let mut fields = Fields::new(alloc, file);
     let cases = fields.word().map_err(|error| FileError::at(0, error))?;
     let mut agreed = 0;
     let mut first = None;
     for case in 0..cases {
-        if trial(&mut fields).map_err(|error| FileError::at(case, error))? {
-            agreed += 1;
-        } else {
+        let agrees = trial(&mut fields).map_err(|error| FileError::at(case, error))?;
+        agreed += u32::from(agrees);
+        if !agrees {
             first = first.or(Some(case));
         }
     }
@@ -74,19 +77,13 @@ fn try_cases<F: Fn(&mut Fields) -> Result<bool, FieldError>>(
     })
 }
 
-// Reads a file and tries its cases.
-fn tally_of<R: Files + AllocGlobal, F: Fn(&mut Fields) -> Result<bool, FieldError>>(
-    rt: &R,
-    path: &str,
-    trial: F,
-) -> Result<Tally, FileError>
-    requires { F.IsAlwaysCallable trial }
-{
+// Reads a file of cases.
+fn read_cases<R: Files + AllocGlobal>(rt: &R, path: &str) -> Result<Vec<u8>, FileError> {
     let file = fs::read(rt, path)?;
     if TOO_LONG <= file.len() {
         return Err(FileError::TooLong);
     }
-    try_cases(Fields::new(rt.alloc(), &file), trial)
+    Ok(file)
 }
 
 // Tries the cases of a file, and prints a line. Answers whether all agree.
@@ -97,7 +94,11 @@ pub fn try_file<
     requires { F.IsAlwaysCallable trial }
 {
     let path = format!(in rt.alloc(); "{name}.cases")?;
-    match tally_of(rt, &path, trial) {
+    let tally = match read_cases(rt, &path) {
+        Ok(file) => try_cases(rt.alloc(), &file, trial),
+        Err(error) => Err(error),
+    };
+    match tally {
         Ok(tally) => {
             println!(rt; "{name}: {tally}")?;
             Ok(tally.first.is_none())

@@ -2,7 +2,8 @@
 use crate::fields::{FieldError, Fields};
 use crate::trials::try_writing;
 
-// What each masked cipher is given: how many shares, those of the key and of the block, and random bytes.
+// What each masked cipher is given: how many shares, those of the key and of the block, and random bytes. They go together in a case file alone:
+// the operations take each by itself, as C passes them.
 #[derive(Clone, Copy)]
 pub struct Shares<'a> {
     pub s: u32,

@@ -1,17 +1,15 @@
-// PRESENT-80 without shares, both ways, by tables. The operations Encrypt and Decrypt are `enciphering::encrypt` and `deciphering::decrypt`; both
-// call `blocks`, which takes many blocks with one key.
+// PRESENT-80 without shares, both ways, by tables. The operations Encrypt and Decrypt are `ciphering::encrypt` and `ciphering::decrypt`; both
+// call `process_blocks`, which takes many blocks with one key, at their `Direction`.
 #![tactic(auto)]
 
 pub mod blocks;
-pub mod deciphering;
+pub mod ciphering;
 mod decryption_table;
-pub mod enciphering;
+pub mod direction;
 mod encryption_table;
-mod keys;
-mod lengths;
 mod lookup;
 mod rounds;
 
-pub use blocks::{decrypt_blocks, encrypt_blocks};
-pub use deciphering::decrypt;
-pub use enciphering::encrypt;
+pub use blocks::process_blocks;
+pub use ciphering::{decrypt, encrypt};
+pub use direction::{Decryption, Direction, Encryption};

@@ -10,7 +10,7 @@ fn place(x: u64, j: usize) -> usize
     256 * j + ((x >> (8 * j)) % 256) as usize
 }
 
-// The entries of the eight bytes of a block, added.
+// The entries of the eight bytes of a block, added. The loop goes by the number of a byte, which is in the place of its entry.
 pub fn add_entries(table: &[u64; 2048], x: u64) -> u64
     ensures { result ≡ spec.entries table.now x }
 {

@@ -1,19 +1,16 @@
--- `inversion::affine` meets its contract: a loop over the shares.
-use native.Mathlib.Omega.{arith}
-use Rattle.steps.proofs.Loop.{going_ready, going_on, gone}
-use Rattle.product.specs.ByShare.{by_share}
-use Rattle.aes.specs.Sbox.{affine as program}
+-- `inversion::affine` meets its contract: it is made share by share.
+use borrow.Author.Rules.{rules}
+use Rattle.aes.specs.Sbox.{affine as program, affine_share}
 use Rattle.aes.proofs.inversion.affine.Goals as goal
 
-pub affine_share-requires : goal.affine_share-requires
-unfolding program by_share
-affine_share-requires g c =
-    record { i_bound = omega (arith, c.args.s.few); ready = going_ready c.loop-i.invariant c.requires c.loop-i-test.true }
-
-pub loop-i-preserved : goal.loop-i-preserved
-unfolding program by_share
-loop-i-preserved g c = going_on c.loop-i.invariant c.requires c.loop-i-test.true c.affine_share.ensures
+pub by_share-requires : goal.by_share-requires
+unfolding program
+by_share-requires g c =
+    let few = c.args.s.few in
+    (affine_share c.args.a.now, record { callable = λ i m lt y. search rules; runs = λ i v m n lt r. search rules }, c.requires)
 
 pub returns : goal.returns
-unfolding program by_share
-returns g c = gone c.loop-i.invariant c.loop-i-test.false
+unfolding program
+returns g c =
+    c.by_share.ensures (affine_share c.args.a.now)
+    (let few = c.args.s.few in record { callable = λ i m lt y. search rules; runs = λ i v m n lt r. search rules }) c.requires

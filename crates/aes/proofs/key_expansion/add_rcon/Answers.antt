@@ -8,9 +8,9 @@ use Rattle.aes.proofs.Runs.{rcon_room, rcon_went}
 use Rattle.aes.proofs.key_expansion.add_rcon.Goals as goal
 
 pub record-requires : goal.record-requires
-record-requires g c = rcon_room _ _ c.requires.ready
+record-requires g c = rcon_room _ _ c.requires
 
 pub returns : goal.returns
 unfolding ◌⊕◌ rcon
 returns g c =
-    rcon_went c.args.r c.args.t.now _ (ap (λ (v : ℕ). byte_at c.args.t.now 0 ⊕ v) c.power_of_two.ensures) c.record.ensures
+    rcon_went c.args.r.number c.args.t.now _ (ap (λ (v : ℕ). byte_at c.args.t.now 0 ⊕ v) c.power_of_two.ensures) c.record.ensures

@@ -3,9 +3,9 @@ use Rattle.steps.proofs.Parts.{ready_first, went_map}
 use Rattle.rijndael.specs.Masked.{masked_new_word}
 use Rattle.aes.proofs.key_expansion.new_word.Goals as goal
 
-pub add_word-word-requires : goal.add_word-word-requires
+pub add_word-word-requires-clause-ready : goal.add_word-word-requires-clause-ready
 unfolding masked_new_word
-add_word-word-requires g c = record { i_bound = c.requires.i_bound; ready = ready_first _ _ c.requires.ready }
+add_word-word-requires-clause-ready g c = ready_first _ _ c.requires.ready
 
 pub returns : goal.returns
 unfolding masked_new_word

@@ -6,27 +6,20 @@ use Rattle.aes.proofs.key_expansion.next_key.Goals as goal
 
 pub rot_word-temp-requires : goal.rot_word-temp-requires
 unfolding program
-rot_word-temp-requires g c = record { r_bound = c.requires.r_bound; ready = ready_first _ _ c.requires.ready }
+rot_word-temp-requires g c = ready_first _ _ c.requires
 
 pub sub_bytes-requires : goal.sub_bytes-requires
 unfolding program
-sub_bytes-requires g c = (omega arith, ready_first _ _ (ready_next _ c.requires.ready c.rot_word-temp.ensures))
+sub_bytes-requires g c = (omega arith, ready_first _ _ (ready_next _ c.requires c.rot_word-temp.ensures))
 
 pub add_rcon-requires : goal.add_rcon-requires
 unfolding program
-add_rcon-requires g c =
-    record {
-      r_bound = c.requires.r_bound;
-      ready = ready_first _ _ (ready_next _ (ready_next _ c.requires.ready c.rot_word-temp.ensures) c.sub_bytes.ensures);
-    }
+add_rcon-requires g c = ready_first _ _ (ready_next _ (ready_next _ c.requires c.rot_word-temp.ensures) c.sub_bytes.ensures)
 
 pub new_words-requires : goal.new_words-requires
 unfolding program
 new_words-requires g c =
-    record {
-      r_bound = c.requires.r_bound;
-      ready = ready_first _ _ (ready_next _ (ready_next _ (ready_next _ c.requires.ready c.rot_word-temp.ensures) c.sub_bytes.ensures) c.add_rcon.ensures);
-    }
+    ready_first _ _ (ready_next _ (ready_next _ (ready_next _ c.requires c.rot_word-temp.ensures) c.sub_bytes.ensures) c.add_rcon.ensures)
 
 pub returns : goal.returns
 unfolding program

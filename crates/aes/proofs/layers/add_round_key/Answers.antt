@@ -3,11 +3,7 @@ use native.Mathlib.Omega.{arith}
 use Rattle.rijndael.specs.Strings.{place_of, make_shares}
 use Rattle.rijndael.specs.Rijndael.{key_byte}
 use Rattle.rijndael.specs.Masked.{masked_add_round_key}
-use Rattle.aes.proofs.Bounds.{few}
 use Rattle.aes.proofs.layers.add_round_key.Goals as goal
-
-pub make_shares-requires : goal.make_shares-requires
-make_shares-requires g c = (omega arith, λ p h. (c.requires.r_bound, omega (arith, few 144 c.args.s.few, h)))
 
 pub recorded-requires : goal.recorded-requires
 unfolding masked_add_round_key make_shares

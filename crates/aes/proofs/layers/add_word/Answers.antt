@@ -2,11 +2,7 @@
 use native.Mathlib.Omega.{arith}
 use Rattle.rijndael.specs.Strings.{place_of, make_shares}
 use Rattle.rijndael.specs.Rijndael.{word_byte}
-use Rattle.aes.proofs.Bounds.{few}
 use Rattle.aes.proofs.layers.add_word.Goals as goal
-
-pub make_shares-requires : goal.make_shares-requires
-make_shares-requires g c = (omega arith, λ p h. (c.requires.i_bound.0, c.requires.i_bound.1, omega (arith, few 36 c.args.s.few, h)))
 
 pub recorded-requires : goal.recorded-requires
 unfolding make_shares

@@ -4,11 +4,7 @@ use native.Mathlib.Omega.{arith}
 use Rattle.rijndael.specs.Strings.{place_of, make_shares}
 use Rattle.rijndael.specs.Rijndael.{shift_byte}
 use Rattle.rijndael.specs.Masked.{masked_shift_rows}
-use Rattle.aes.proofs.Bounds.{few}
 use Rattle.aes.proofs.layers.shift_rows.Goals as goal
-
-pub make_shares-requires : goal.make_shares-requires
-make_shares-requires g c = (omega arith, λ p h. omega (arith, few 144 c.args.s.few, h))
 
 pub recorded-requires : goal.recorded-requires
 unfolding masked_shift_rows make_shares

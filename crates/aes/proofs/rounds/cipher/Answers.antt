@@ -1,12 +1,11 @@
 -- `rounds::cipher` meets its contract: AddRoundKey, rounds 1 to 9, and round 10.
-use native.Mathlib.Omega.{arith}
 use Rattle.steps.proofs.Parts.{ready_first, ready_next, went_then}
 use Rattle.rijndael.specs.Masked.{masked_cipher as program}
 use Rattle.aes.proofs.rounds.cipher.Goals as goal
 
-pub add_round_key-state-requires : goal.add_round_key-state-requires
+pub add_round_key-state-requires-clause-ready : goal.add_round_key-state-requires-clause-ready
 unfolding program
-add_round_key-state-requires g c = record { r_bound = omega arith; ready = ready_first _ _ c.requires }
+add_round_key-state-requires-clause-ready g c = ready_first _ _ c.requires
 
 pub rounds-requires : goal.rounds-requires
 unfolding program

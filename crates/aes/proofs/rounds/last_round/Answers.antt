@@ -12,10 +12,9 @@ pub shift_rows-shifted-requires : goal.shift_rows-shifted-requires
 unfolding program
 shift_rows-shifted-requires g c = ready_first _ _ (ready_next _ c.requires c.sub_bytes.ensures)
 
-pub add_round_key-requires : goal.add_round_key-requires
+pub add_round_key-requires-clause-ready : goal.add_round_key-requires-clause-ready
 unfolding program
-add_round_key-requires g c =
-    record { r_bound = omega arith; ready = ready_next _ (ready_next _ c.requires c.sub_bytes.ensures) c.shift_rows-shifted.ensures }
+add_round_key-requires-clause-ready g c = ready_next _ (ready_next _ c.requires c.sub_bytes.ensures) c.shift_rows-shifted.ensures
 
 pub returns : goal.returns
 unfolding program

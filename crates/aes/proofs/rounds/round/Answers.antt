@@ -16,13 +16,10 @@ pub mix_columns-mixed-requires : goal.mix_columns-mixed-requires
 unfolding program
 mix_columns-mixed-requires g c = ready_first _ _ (ready_next _ (ready_next _ c.requires.ready c.sub_bytes.ensures) c.shift_rows-shifted.ensures)
 
-pub add_round_key-requires : goal.add_round_key-requires
+pub add_round_key-requires-clause-ready : goal.add_round_key-requires-clause-ready
 unfolding program
-add_round_key-requires g c =
-    record {
-      r_bound = c.requires.r_bound;
-      ready = ready_next _ (ready_next _ (ready_next _ c.requires.ready c.sub_bytes.ensures) c.shift_rows-shifted.ensures) c.mix_columns-mixed.ensures;
-    }
+add_round_key-requires-clause-ready g c =
+    ready_next _ (ready_next _ (ready_next _ c.requires.ready c.sub_bytes.ensures) c.shift_rows-shifted.ensures) c.mix_columns-mixed.ensures
 
 pub returns : goal.returns
 unfolding program

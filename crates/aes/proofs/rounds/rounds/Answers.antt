@@ -1,11 +1,9 @@
 -- `rounds::rounds` meets its contract: a loop over the rounds.
-use native.Mathlib.Omega.{arith}
 use Rattle.steps.proofs.Loop.{going_ready, going_on, gone}
 use Rattle.aes.proofs.rounds.rounds.Goals as goal
 
-pub round-requires : goal.round-requires
-round-requires g c =
-    record { r_bound = omega (arith, c.loop-r-test.true); ready = going_ready c.loop-r.invariant c.requires c.loop-r-test.true }
+pub round-requires-clause-ready : goal.round-requires-clause-ready
+round-requires-clause-ready g c = going_ready c.loop-r.invariant c.requires c.loop-r-test.true
 
 pub loop-r-preserved : goal.loop-r-preserved
 loop-r-preserved g c = going_on c.loop-r.invariant c.requires c.loop-r-test.true c.round.ensures

@@ -4,7 +4,7 @@ use Rattle.refusal.proofs.Outcome.{refuses}
 use Rattle.refusal.proofs.Exits.{reports}
 use Rattle.steps.specs.Taken.{handed}
 use Rattle.steps.specs.Call.{call_outcome}
-use Rattle.cipher.specs.Ciphering.{call_of, call_tests}
+use Rattle.steps.specs.Ciphering.{call_of, call_tests}
 use Rattle.cipher.specs.Operations.{block_outcome, block_output}
 use Rattle.cipher.proofs.enciphering.block.Goals as goal
 

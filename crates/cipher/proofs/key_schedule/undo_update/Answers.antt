@@ -6,19 +6,19 @@ use Rattle.cipher.proofs.Prepared.{prepared_first, prepared_next}
 use Rattle.cipher.proofs.Runs.{back_top_nibble}
 use Rattle.cipher.proofs.key_schedule.undo_update.Goals as goal
 
-pub round_number-requires-clause-ready : goal.round_number-requires-clause-ready
+pub round_number-requires : goal.round_number-requires
 unfolding masked_undo_update masked_unrotate
-round_number-requires-clause-ready g c = (prepared_first _ _ c.requires.prepared).ready
+round_number-requires g c = (prepared_first _ _ c.requires).ready
 
 pub substitute-requires-clause-prepared : goal.substitute-requires-clause-prepared
 unfolding masked_undo_update masked_unrotate
 substitute-requires-clause-prepared g c =
-    rw (back_top_nibble _ _) at (prepared_first _ _ (prepared_next _ c.requires.prepared c.round_number.ensures.went))
+    rw (back_top_nibble _ _) at (prepared_first _ _ (prepared_next _ c.requires c.round_number.ensures.went))
 
 pub linear_map-requires-clause-ready : goal.linear_map-requires-clause-ready
 unfolding masked_undo_update masked_unrotate
 linear_map-requires-clause-ready g c =
-    (prepared_next _ (prepared_next _ c.requires.prepared c.round_number.ensures.went) (rw (← back_top_nibble _ _) at c.substitute.ensures.went)).ready
+    (prepared_next _ (prepared_next _ c.requires c.round_number.ensures.went) (rw (← back_top_nibble _ _) at c.substitute.ensures.went)).ready
 
 pub returns : goal.returns
 unfolding masked_undo_update masked_unrotate

@@ -8,17 +8,17 @@ use Rattle.cipher.proofs.key_schedule.update_key.Goals as goal
 
 pub linear_map-requires-clause-ready : goal.linear_map-requires-clause-ready
 unfolding masked_update masked_rotate
-linear_map-requires-clause-ready g c = (prepared_first _ _ c.requires.prepared).ready
+linear_map-requires-clause-ready g c = (prepared_first _ _ c.requires).ready
 
 pub substitute-requires-clause-prepared : goal.substitute-requires-clause-prepared
 unfolding masked_update masked_rotate
 substitute-requires-clause-prepared g c =
-    rw (top_nibble_lem _ _) at (prepared_first _ _ (prepared_next _ c.requires.prepared c.linear_map.ensures.went))
+    rw (top_nibble_lem _ _) at (prepared_first _ _ (prepared_next _ c.requires c.linear_map.ensures.went))
 
-pub round_number-requires-clause-ready : goal.round_number-requires-clause-ready
+pub round_number-requires : goal.round_number-requires
 unfolding masked_update masked_rotate
-round_number-requires-clause-ready g c =
-    (prepared_next _ (prepared_next _ c.requires.prepared c.linear_map.ensures.went) (rw (← top_nibble_lem _ _) at c.substitute.ensures.went)).ready
+round_number-requires g c =
+    (prepared_next _ (prepared_next _ c.requires c.linear_map.ensures.went) (rw (← top_nibble_lem _ _) at c.substitute.ensures.went)).ready
 
 pub returns : goal.returns
 unfolding masked_update masked_rotate

@@ -4,7 +4,7 @@ use Rattle.refusal.proofs.Outcome.{refuses}
 use Rattle.refusal.proofs.Exits.{reports}
 use Rattle.steps.specs.Taken.{handed}
 use Rattle.steps.specs.Call as call
-use Rattle.cipher.specs.Ciphering.{call_of, call_tests}
+use Rattle.steps.specs.Ciphering.{call_of, call_tests}
 use Rattle.cipher.specs.OpenOperations.{watch_open_outcome, watch_open_output}
 use Rattle.cipher.proofs.opening.watch_open.Goals as goal
 

@@ -1,18 +1,13 @@
 -- `recording::record_nibbles` meets its contract: a loop over the nibbles.
-use native.Mathlib.Omega.{arith}
 use Rattle.steps.specs.Program.{◌>>◌}
 use Rattle.steps.proofs.Loop.{going_ready, going_on, gone}
 use Rattle.steps.proofs.Parts.{ready_first, went_map}
 use Rattle.present.specs.Masked.{note_nibbles}
 use Rattle.cipher.proofs.recording.record_nibbles.Goals as goal
 
-pub record_nibble-requires : goal.record_nibble-requires
+pub record_nibble-requires-clause-ready : goal.record_nibble-requires-clause-ready
 unfolding note_nibbles ◌>>◌
-record_nibble-requires g c =
-    record {
-      in_bounds = omega (arith, c.requires.in_bounds);
-      ready = ready_first _ _ (going_ready c.loop-k.invariant c.requires.ready c.loop-k-test.true);
-    }
+record_nibble-requires-clause-ready g c = ready_first _ _ (going_ready c.loop-k.invariant c.requires.ready c.loop-k-test.true)
 
 pub loop-k-preserved : goal.loop-k-preserved
 unfolding note_nibbles ◌>>◌

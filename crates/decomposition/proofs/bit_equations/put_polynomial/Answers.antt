@@ -21,38 +21,31 @@ columns_room {L} z i j h g =
     let place : i * L.exponents + j < L.unknowns = omega (arith, block_room z h) in
     row_room L.width place (le_refl (L.unknowns * L.width))
 
-pub mul-v-requires : goal.mul-v-requires
-mul-v-requires c = (sizes_of c.args.problem.now.sizes).width
-
 pub overflow_add-first : goal.overflow_add-first
 overflow_add-first c =
-    let z = sizes_of c.args.problem.now.sizes in
-    omega (arith, block_room z c.requires.room.2, unknowns_few z, c.loop-j-test.true)
+    let z = sizes_of c.args.input.now.problem.sizes in
+    omega (arith, block_room z c.requires.1, unknowns_few z, c.loop-j-test.true)
 
 pub overflow_mul-first-in-loop-j : goal.overflow_mul-first-in-loop-j
 overflow_mul-first-in-loop-j c =
-    let z = sizes_of c.args.problem.now.sizes in
-    omega (arith, columns_room z c.args.i c.loop-j.j c.requires.room.2 c.loop-j-test.true, z.bit_room, z.few_bytes)
-
-pub put_unknown-requires-clause-narrow : goal.put_unknown-requires-clause-narrow
-put_unknown-requires-clause-narrow c = (sizes_of c.args.problem.now.sizes).width
+    let z = sizes_of c.args.input.now.problem.sizes in
+    omega (arith, columns_room z c.args.i c.loop-j.j c.requires.1 c.loop-j-test.true, z.bit_room, z.few_bytes)
 
 pub put_unknown-requires-clause-stride_in_bounds : goal.put_unknown-requires-clause-stride_in_bounds
 put_unknown-requires-clause-stride_in_bounds c =
-    let z = sizes_of c.args.problem.now.sizes in (
-      omega (arith, c.requires.room.0, c.loop-j.auto.work),
-      omega (arith, columns_room z c.args.i c.loop-j.j c.requires.room.2 c.loop-j-test.true, z.bit_room),
+    let z = sizes_of c.args.input.now.problem.sizes in (
+      omega (arith, c.requires.0, c.loop-j.auto.work),
+      omega (arith, columns_room z c.args.i c.loop-j.j c.requires.1 c.loop-j-test.true, z.bit_room),
       omega (arith, width_few z, z.few_outputs),
-      c.requires.room.1,
       z.few_bytes,
     )
 
 pub loop-j-preserved : goal.loop-j-preserved
 loop-j-preserved c =
-    let p = c.args.powers.now in
-    let L = c.args.problem.now.layout in
+    let p = c.args.input.now.powers in
+    let L = c.args.input.now.problem.layout in
     let first = c.args.i * L.exponents in
-    let power = rw c.requires.same_layout at (power_at (sizes_of p.sizes) p.x p.row p.powers c.loop-j.j) in
+    let power = rw c.args.input.now.same_layout at (power_at (sizes_of p.sizes) p.x p.row p.powers c.loop-j.j) in
     let v = c.mul-v.ensures ∙ ap (mul L.width c.args.f) (power c.loop-j-test.true) in
     λ r h.
     rw (next_block c.loop-j.j L.width)
@@ -61,5 +54,5 @@ loop-j-preserved c =
 
 pub returns : goal.returns
 returns c =
-    let e : c.loop-j.j ≡ c.args.problem.now.layout.exponents = omega (arith, c.loop-j.auto.j-end, c.loop-j-test.false) in
+    let e : c.loop-j.j ≡ c.args.input.now.problem.layout.exponents = omega (arith, c.loop-j.auto.j-end, c.loop-j-test.false) in
     λ r h. rw e at (c.loop-j.invariant r h)

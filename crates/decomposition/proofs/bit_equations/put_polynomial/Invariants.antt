@@ -8,5 +8,5 @@ use Rattle.decomposition.proofs.bit_equations.put_polynomial.Given as goal
 
 abbrev pub invariant-loop-j : goal.invariant-loop-j
 invariant-loop-j l =
-    (r : ℕ → ℕ) → ((k : ℕ) → k < l.layout.exponents → r (l.i * l.layout.exponents + k) ≡ mul l.layout.width l.f (monomial l.layout.width l.powers.x k))
+    (r : ℕ → ℕ) → ((k : ℕ) → k < l.layout.exponents → r (l.i * l.layout.exponents + k) ≡ mul l.layout.width l.f (monomial l.layout.width l.input.powers.x k))
     → BitsWritten l.layout l.initial.work l.work l.row (l.i * l.layout.exponents * l.layout.width) (l.j * l.layout.width) r

@@ -13,20 +13,20 @@ use Rattle.decomposition.proofs.bit_equations.put_polynomials.Goals as goal
 
 pub loop-i-preserved : goal.loop-i-preserved
 loop-i-preserved c =
-    let L = c.args.problem.now.layout in
-    let x = c.args.powers.now.x in
-    let basis = c.args.problem.now.basis.now in
+    let L = c.args.input.now.problem.layout in
+    let x = c.args.input.now.powers.x in
+    let basis = c.args.input.now.problem.basis.now in
     let done = c.loop-i.i * L.exponents in
     let more : (c.loop-i.i + 1) * L.exponents * L.width ≡ done * L.width + L.exponents * L.width =
     ap (λ (k : ℕ). k * L.width) (next_block c.loop-i.i L.exponents) ∙ add-mul done L.exponents L.width in
     rw more
     (block_join (done * L.width) (L.exponents * L.width) c.loop-i.invariant (sym (zero-add (done * L.width)))
     (c.put_polynomial.ensures (unknown_column L basis x) (λ j h.
-    column_at L basis x c.loop-i.i j h ∙ ap (λ (y : ℕ). mul L.width y (monomial L.width x j)) (sym c.factor-f.ensures))))
+    column_at L basis x c.loop-i.i j h ∙ ap (λ (y : ℕ). mul L.width y (monomial L.width x j)) (sym c.factor.ensures))))
 
 pub returns : goal.returns
 returns c =
-    let p = c.args.problem.now in
+    let p = c.args.input.now.problem in
     let L = p.layout in
     let e : c.loop-i.i ≡ L.terms = omega (arith, c.loop-i.auto.i-end, c.loop-i-test.false) in
     let all : c.loop-i.i * L.exponents ≡ L.unknowns = ap (λ (k : ℕ). k * L.exponents) e ∙ sym (sizes_of p.sizes).unknowns in

@@ -6,5 +6,5 @@ use Rattle.decomposition.proofs.bit_equations.put_polynomials.Given as goal
 
 abbrev pub invariant-loop-i : goal.invariant-loop-i
 invariant-loop-i l =
-    BitsWritten l.problem.layout l.initial.work l.work l.row 0 (l.i * l.problem.layout.exponents * l.problem.layout.width)
-    (unknown_column l.problem.layout l.problem.basis.now l.powers.x)
+    BitsWritten l.input.problem.layout l.initial.work l.work l.row 0 (l.i * l.input.problem.layout.exponents * l.input.problem.layout.width)
+    (unknown_column l.input.problem.layout l.input.problem.basis.now l.input.powers.x)

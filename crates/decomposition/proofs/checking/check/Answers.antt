@@ -2,7 +2,6 @@
 use mathlib.Core.Path.{◌≡◌, ◌∙◌, refl, sym}
 use mathlib.Core.List.{List, []}
 use Prim.Native.Nat.{ℕ, ◌%◌}
-use native.Mathlib.Omega.{arith}
 use borrow.Author.Tests.{eqb-true}
 use lib.Dec.{eqb, leb}
 use lib.ListN.{length}
@@ -20,8 +19,6 @@ use Rattle.decomposition.specs.Record.{coefficients_of, layout_of, read_outcome}
 use Rattle.decomposition.specs.declared.layouts.Layout.{Layout}
 use Rattle.decomposition.specs.declared.records.Record.{Record}
 use Rattle.decomposition.proofs.Differences.{agrees, differs}
-use Rattle.decomposition.proofs.Sizes.{entries_few}
-use Rattle.decomposition.proofs.Whole.{sizes_of}
 use Rattle.decomposition.proofs.checking.check.Goals as goal
 
 -- the tests of the table, by the layout and the coefficients of a record
@@ -46,9 +43,6 @@ returns-in_err-refuse_unless c =
     let f = failed Length refl c.refuse_unless.ensures c.in_err-refuse_unless.was in
     exits nothing _ _ Length c.from_residual-in_err-refuse_unless.ensures.1 f.1
     (goes_on _ _ c.read.ensures.outcome c.read.ensures.record c.in_ok-record.was ∙ rw f.0 refl)
-
-pub overflow_cast-record : goal.overflow_cast-record
-overflow_cast-record c = let z = sizes_of c.in_ok-record.record.sizes in omega (arith, entries_few z, z.byte)
 
 pub returns-in_err-refuse_large : goal.returns-in_err-refuse_large
 returns-in_err-refuse_large c =

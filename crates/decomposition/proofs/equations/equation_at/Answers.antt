@@ -14,24 +14,24 @@ use Rattle.decomposition.proofs.equations.equation_at.Goals as goal
 
 pub multiple-requires : goal.multiple-requires
 multiple-requires c =
-    let room = block_room (sizes_of c.args.problem.now.sizes) c.loop-i-test.true in
-    rw c.requires.same_layout (omega (arith, room, c.requires.room, c.loop-i.auto.work))
+    let room = block_room (sizes_of c.args.input.now.problem.sizes) c.loop-i-test.true in
+    rw c.args.input.now.same_layout (omega (arith, room, c.requires, c.loop-i.auto.work))
 
 pub loop-i-preserved : goal.loop-i-preserved
 loop-i-preserved c =
-    let L = c.args.problem.now.layout in
-    let x = c.args.powers.now.x in
+    let L = c.args.input.now.problem.layout in
+    let x = c.args.input.now.powers.x in
     rw (next_block c.loop-i.i L.exponents)
-    (overwritten_join c.loop-i.invariant (rw c.requires.same_layout at c.multiple.ensures) (λ j l.
-    ap (λ (y : ℕ). mul L.width y (monomial L.width x j)) c.factor-f.ensures ∙ sym (column_at L c.args.problem.now.basis.now x c.loop-i.i j l)))
+    (overwritten_join c.loop-i.invariant (rw c.args.input.now.same_layout at c.multiple.ensures) (λ j l.
+    ap (λ (y : ℕ). mul L.width y (monomial L.width x j)) c.factor-f.ensures ∙ sym (column_at L c.args.input.now.problem.basis.now x c.loop-i.i j l)))
 
 pub returns : goal.returns
 returns c =
-    let p = c.args.problem.now in
+    let p = c.args.input.now.problem in
     let L = p.layout in
-    let x = c.args.powers.now.x in
+    let x = c.args.input.now.powers.x in
     let e : c.loop-i.i ≡ L.terms = omega (arith, c.loop-i.auto.i-end, c.loop-i-test.false) in
     let all : c.loop-i.i * L.exponents ≡ L.unknowns = ap (λ (k : ℕ). k * L.exponents) e ∙ sym (sizes_of p.sizes).unknowns in
     let u : Overwritten c.args.work.now c.loop-i.work c.args.a L.unknowns (unknown_column L p.basis.now x) = rw all at c.loop-i.invariant in
     overwritten_more c.loop-i.work (overwritten_values u (λ j l. sym (equation_column L p.basis.now x c.args.v j l)))
-    (omega (arith, c.requires.room, c.loop-i.auto.work)) c.args.v (sym (equation_right L p.basis.now x c.args.v))
+    (omega (arith, c.requires, c.loop-i.auto.work)) c.args.v (sym (equation_right L p.basis.now x c.args.v))

@@ -5,4 +5,4 @@ use Rattle.decomposition.specs.Form.{unknown_column}
 use Rattle.decomposition.proofs.equations.equation_at.Given as goal
 
 abbrev pub invariant-loop-i : goal.invariant-loop-i
-invariant-loop-i l = Overwritten l.initial.work l.work l.a (l.i * l.problem.layout.exponents) (unknown_column l.problem.layout l.problem.basis.now l.powers.x)
+invariant-loop-i l = Overwritten l.initial.work l.work l.a (l.i * l.input.problem.layout.exponents) (unknown_column l.input.problem.layout l.input.problem.basis.now l.input.powers.x)

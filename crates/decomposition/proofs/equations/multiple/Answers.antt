@@ -7,9 +7,6 @@ use Rattle.decomposition.proofs.Value.{power_at}
 use Rattle.decomposition.proofs.Whole.{sizes_of}
 use Rattle.decomposition.proofs.equations.multiple.Goals as goal
 
-pub mul-requires : goal.mul-requires
-mul-requires c = (sizes_of c.args.powers.now.sizes).width
-
 pub loop-j-preserved : goal.loop-j-preserved
 loop-j-preserved c =
     let p = c.args.powers.now in

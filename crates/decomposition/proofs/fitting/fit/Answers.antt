@@ -1,5 +1,7 @@
 -- `fitting::fit` meets its contract: by the pair, then by what the tests come to.
+use mathlib.Core.List.{List}
 use mathlib.Core.Path.{◌∙◌, ap, sym}
+use Prim.Native.Nat.{ℕ}
 use Rattle.std.proofs.lemmas.Result.{IfOk-at_ok}
 use Rattle.refusal.specs.Refusals.{nothing, report}
 use Rattle.refusal.proofs.Exits.{reports}
@@ -12,21 +14,24 @@ use Rattle.decomposition.proofs.Total.{fit_end_lem, fit_finds, fit_refused}
 use Rattle.decomposition.proofs.Whole.{sizes_of}
 use Rattle.decomposition.proofs.fitting.fit.Goals as goal
 
+-- what the slices hold at entry
+abbrev lent : List ℕ → List ℕ → List ℕ → List ℕ → FitCall
+lent table basis work out = record { table = table; basis = basis; work = work; out = out }
+
 pub returns-in_err-layout : goal.returns-in_err-layout
 returns-in_err-layout c =
-    -- what the slices hold at entry
-    let call : FitCall = record { table = c.args.table.now; basis = c.args.basis.now; work = c.args.work.now; out = c.args.out.now } in
+    let call = lent c.args.table.now c.args.basis.now c.args.work.now c.args.out.now in
     let stops = pair_stops c.args.width c.args.outputs _ (sym c.of.ensures.outcome ∙ ap (report _) c.in_err-layout.was) in
     rw (reports nothing _ _ c.from_residual.ensures.1) (fit_end_lem c.args.width c.args.outputs call _ (refused_at _ call _ _ stops))
 
 pub fit_tests-requires : goal.fit_tests-requires
 fit_tests-requires c =
     let pair = pair_passes c.args.width c.args.outputs (sym c.of.ensures.outcome ∙ ap (report _) c.in_ok-layout.was) in
-    rw (IfOk-at_ok _ c.in_ok-layout.was c.of.ensures.layout) (sizes _ _ pair)
+    rw (IfOk-at_ok _ c.in_ok-layout.was c.of.ensures.layout) (∣ sizes _ _ pair ∣₁)
 
 pub returns-in_err-problem : goal.returns-in_err-problem
 returns-in_err-problem c =
-    let call : FitCall = record { table = c.args.table.now; basis = c.args.basis.now; work = c.args.work.now; out = c.args.out.now } in
+    let call = lent c.args.table.now c.args.basis.now c.args.work.now c.args.out.now in
     let pair = pair_passes c.args.width c.args.outputs (sym c.of.ensures.outcome ∙ ap (report _) c.in_ok-layout.was) in
     rw (reports nothing _ _ c.from_residual-in_err-problem.ensures.1)
     (fit_refused c.args.width c.args.outputs call c.in_ok-layout.layout pair (IfOk-at_ok _ c.in_ok-layout.was c.of.ensures.layout)
@@ -41,7 +46,7 @@ find-requires c =
 
 pub returns : goal.returns
 returns c =
-    let call : FitCall = record { table = c.args.table.now; basis = c.args.basis.now; work = c.args.work.now; out = c.args.out.now } in
+    let call = lent c.args.table.now c.args.basis.now c.args.work.now c.args.out.now in
     let pair = pair_passes c.args.width c.args.outputs (sym c.of.ensures.outcome ∙ ap (report _) c.in_ok-layout.was) in
     let parts = IfOk-at_ok _ c.in_ok-problem.was c.fit_tests.ensures.problem in
     fit_finds c.args.width c.args.outputs call c.in_ok-layout.layout pair (IfOk-at_ok _ c.in_ok-layout.was c.of.ensures.layout) _

@@ -12,7 +12,7 @@ use Rattle.decomposition.proofs.Whole.{sizes_of}
 use Rattle.decomposition.proofs.fitting.house_fit.Goals as goal
 
 pub fit_tests-requires : goal.fit_tests-requires
-fit_tests-requires c = rw (← layout_4_4) (sizes 4 4 (same_pair 4 refl))
+fit_tests-requires c = rw (← layout_4_4) (∣ sizes 4 4 (same_pair 4 refl) ∣₁)
 
 pub returns-in_err-problem : goal.returns-in_err-problem
 unfolding house_basis

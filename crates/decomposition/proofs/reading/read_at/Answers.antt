@@ -18,7 +18,7 @@ returns-in_err-refuse_large-clause-outcome c =
 
 pub invariant_of-result : goal.invariant_of-result
 invariant_of-result c =
-    record { sizes = ∣ c.requires.sizes ∣₁; whole = eqb-true _ _ (held _ refl c.refuse_unless.ensures c.in_ok-refuse_unless.was) }
+    record { sizes = c.requires.sizes; whole = eqb-true _ _ (held _ refl c.refuse_unless.ensures c.in_ok-refuse_unless.was) }
 
 pub returns-clause-outcome : goal.returns-clause-outcome
 returns-clause-outcome c =

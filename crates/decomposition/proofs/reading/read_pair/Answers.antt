@@ -14,8 +14,8 @@ goes_on : {n m k j : ℕ} {L : Layout} (head : ℕ) (cs : List ℕ) → n ≡ k 
 goes_on head cs en em p e = rw (en, em, p.outputs, e) refl
 
 -- its numbers are those of a layout
-sizes_at : {n m : ℕ} {L : Layout} → Pair n m → layout n m ≡ L → Sizes L
-sizes_at {n} {m} p e = rw e at (sizes n m p)
+sizes_at : {n m : ℕ} {L : Layout} → Pair n m → layout n m ≡ L → ∥ Sizes L ∥₁
+sizes_at {n} {m} p e = ∣ rw e at (sizes n m p) ∣₁
 
 pub read_at-requires-clause-sizes : goal.read_at-requires-clause-sizes
 read_at-requires-clause-sizes c = sizes_at (same_pair 4 refl) layout_4_4

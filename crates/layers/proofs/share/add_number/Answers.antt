@@ -1,5 +1,6 @@
 -- `share::add_number` meets its contract.
-use mathlib.Core.Path.{◌≡◌, refl, ap, ap₂, ◌∙◌}
+use mathlib.Core.Path.{refl, ap, ◌∙◌}
+use Prim.Native.Nat.{ℕ}
 use native.Mathlib.Omega.{arith}
 use borrow.Author.Rules.{rules}
 use Rattle.xor.specs.Xor.{◌⊕◌}
@@ -9,7 +10,6 @@ use Rattle.layers.proofs.share.add_number.Goals as goal
 
 pub returns : goal.returns
 returns c =
-    let number : round_number size80 c.from.result ≡ round_number size80 c.args.r = ap (round_number size80) c.from.ensures in
     changed_lent 10 0 {a = 0} {n = 10} _ _ refl refl (omega arith) (search rules)
     (c.store.ensures ∙ c.add_number.ensures
-    ∙ ap₂ ◌⊕◌ (c.load.ensures ∙ share_lent 10 0 {a = 0} {n = 10} _ refl refl (omega arith)) number)
+    ∙ ap (λ (k : ℕ). k ⊕ round_number size80 c.args.r.number) (c.load.ensures ∙ share_lent 10 0 {a = 0} {n = 10} _ refl refl (omega arith)))

@@ -15,8 +15,8 @@ unfolding ◌⊕◌
 returns c =
     let i = c.args.i in
     let small : Small 8 c.args.key.now = λ j. omega (arith, c.type_inv.key j) in
-    let key : c.number-round_key.result ≡ present.round_key present.size80 (share_at 10 c.args.key.now i) =
-    c.number-round_key.ensures.0 ∙ bytes_lent (10 * i) 8 _ (omega arith) (omega arith) ∙ sym (round_key_first i c.args.key.now small) in
-    let block : c.number-x.result ≡ share_at 8 c.args.block.now i = c.number-x.ensures.0 ∙ share_lent 8 i _ refl (omega arith) (omega arith) in
+    let key : c.read_u64-round_key.result ≡ present.round_key present.size80 (share_at 10 c.args.key.now i) =
+    c.read_u64-round_key.ensures ∙ bytes_lent (10 * i) 8 _ (omega arith) (omega arith) ∙ sym (round_key_first i c.args.key.now small) in
+    let block : c.read_u64-x.result ≡ share_at 8 c.args.block.now i = c.read_u64-x.ensures ∙ share_lent 8 i _ refl (omega arith) (omega arith) in
     changed_lent 8 i _ _ refl (omega arith) (omega arith) (omega arith)
-    (from_written 8 _ _ c.put_number.ensures (omega arith) (⊕-lt 64 c.number-round_key.type_inv c.number-x.type_inv) ∙ ap₂ ◌⊕◌ key block)
+    (from_written 8 _ _ c.write_u64.ensures (omega arith) (⊕-lt 64 c.read_u64-round_key.type_inv c.read_u64-x.type_inv) ∙ ap₂ ◌⊕◌ key block)

@@ -2,13 +2,8 @@
 use mathlib.Core.Path.{sym, ap, ◌∙◌}
 use native.Mathlib.Omega.{arith}
 use Rattle.steps.specs.ShareBytes.{share_at, shares_of, sharing}
-use Rattle.steps.proofs.Past.{share_before}
 use Rattle.steps.proofs.View.{map_given, turned_more, turned_all}
-use borrow.Author.Rules.{rules}
 use Rattle.layers.proofs.shares.map_shares.Goals as goal
-
-pub map_share-requires : goal.map_share-requires
-map_share-requires g c = omega (arith, share_before g.M.ShareMap.BYTES c.loop-i.i c.args.s.count c.loop-i-test.true)
 
 pub loop-i-preserved : goal.loop-i-preserved
 loop-i-preserved g c =
@@ -17,7 +12,5 @@ loop-i-preserved g c =
 pub returns-clause-l_after : goal.returns-clause-l_after
 unfolding sharing shares_of
 returns-clause-l_after g c =
-    turned_all c.loop-i.invariant c.loop-i-test.false ∙ sym (map_given c.args.s.count (search rules) g.met.M.ShareMap.linear (share_at g.M.ShareMap.BYTES c.args.l.now))
-
-pub returns-clause-kept_past : goal.returns-clause-kept_past
-returns-clause-kept_past g c = c.loop-i.invariant.past
+    turned_all c.loop-i.invariant c.loop-i-test.false
+    ∙ sym (map_given c.args.s.count c.args.s.few g.met.M.ShareMap.linear (share_at g.M.ShareMap.BYTES c.args.l.now))

@@ -1,9 +1,11 @@
 -- `accept` meets its contract: each test is that of the definition.
+use mathlib.Core.Bool.{Bool}
 use mathlib.Core.List.{List, [], ◌∷◌, ◌++◌}
 use mathlib.Core.Path.{◌≡◌, refl, sym, ap, ◌∙◌}
 use Prim.Native.Nat.{ℕ, ◌^◌}
 use native.Mathlib.Omega.{arith}
 use lib.ListN.{length}
+use Rattle.xor.specs.Sum.{Small}
 use Rattle.refusal.specs.declared.refusals.Refusal.TheVariants.{Length, ShareCount}
 use Rattle.refusal.specs.Large.{test_below}
 use Rattle.refusal.specs.Outcome.{done}
@@ -18,8 +20,9 @@ use Rattle.decomposition.proofs.Whole.{sizes_of}
 use Rattle.decomposition.specs.Record.{outputs_of, width_of}
 use Rattle.sbox.specs.Figures.{sbox_draws}
 use Rattle.sbox.specs.Operations.{OfPair, argument_tests, call_tests, sbox_lengths, tested_random}
-use Rattle.sbox.proofs.Calls.{few_taken, call_lengths_lem, of_pair, outputs_is, width_is}
-use Rattle.sbox.proofs.arguments.accept.Goals.{In_ok-count, After-lengths_fit}
+use Rattle.sbox.proofs.Calls.{few_taken, call_lengths_lem, passed_call, of_pair, outputs_is, width_is}
+use Rattle.sbox.proofs.Passed.{passed_lem}
+use Rattle.sbox.proofs.arguments.accept.Goals.{In_ok-count, In_ok-refuse_large_elements, After-lengths_fit}
 use Rattle.sbox.proofs.arguments.accept.Goals as goal
 
 pub returns-in_err-record-clause-outcome : goal.returns-in_err-record-clause-outcome
@@ -37,16 +40,14 @@ returns-in_err-count-clause-outcome c =
 pair : (c : In_ok-count) → OfPair c.in_ok-record.record.layout
 pair c = of_pair c.args.bytes.now c.in_ok-record.ensures.record.0 (read_values c.args.bytes.now (sym c.in_ok-record.ensures.outcome)).0.pair
 
-pub lengths_fit-requires-clause-pair : goal.lengths_fit-requires-clause-pair
-lengths_fit-requires-clause-pair c = (pair (goal.at.lengths_fit-requires-clause-pair c).In_ok-count).pair
-
-pub lengths_fit-requires-clause-some : goal.lengths_fit-requires-clause-some
-lengths_fit-requires-clause-some c = omega (arith, c.in_ok-count.ensures.0, one_to_range _ _ c.in_ok-count.ensures.1)
+pub lengths_fit-requires : goal.lengths_fit-requires
+lengths_fit-requires c = (pair (goal.at.lengths_fit-requires c).In_ok-count).pair
 
 -- the test of the lengths is that of the definition
-lengths : (c : After-lengths_fit)
-    → c.lengths_fit.result
-    ≡ sbox_lengths (width_of c.args.bytes.now) (outputs_of c.args.bytes.now) c.args.s (length c.args.shares.now) (length c.args.random.now) c.args.fits
+abbrev LengthsTested : List ℕ → ℕ → List ℕ → List ℕ → Bool → Bool → Type 0
+LengthsTested r s shares random fits answer = answer ≡ sbox_lengths (width_of r) (outputs_of r) s (length shares) (length random) fits
+
+lengths : (c : After-lengths_fit) → LengthsTested c.args.bytes.now c.args.s c.args.shares.now c.args.random.now c.args.fits c.lengths_fit.result
 lengths c =
     rw (
       width_is c.args.bytes.now c.in_ok-record.ensures.record.0,
@@ -91,12 +92,24 @@ returns-in_err-refuse_large_elements-clause-outcome c =
     ∙ sym (done_first _ _ c.read.ensures.outcome c.in_ok-record.was
     ∙ rw (c.in_ok-count.ensures.1, right) (entry_large _ _ _ _ tested c.in_err-refuse_large_elements.was))
 
-pub returns-clause-outcome : goal.returns-clause-outcome
+-- past all tests
+outcome : (c : In_ok-refuse_large_elements) → LengthsTested c.args.bytes.now c.args.s c.args.shares.now c.args.random.now c.args.fits c.lengths_fit.result
+    → call_tests c.args.bytes.now c.args.s c.args.shares.now c.args.random.now c.args.fits ≡ done (width_of c.args.bytes.now ∷ [])
 unfolding call_tests argument_tests
-returns-clause-outcome c =
-    let right = held _ (lengths (goal.at.returns-clause-outcome c).After-lengths_fit) c.refuse_unless.ensures c.in_ok-refuse_unless.was in
+outcome c tested =
+    let right = held _ tested c.refuse_unless.ensures c.in_ok-refuse_unless.was in
     let e = width_is c.args.bytes.now c.in_ok-record.ensures.record.0 in
-    let tested = elements_test c.args.bytes.now _ _ _ _ e c.refuse_large_elements.ensures in
-    ap (λ (n : ℕ). done (n ∷ [])) e
-    ∙ sym (done_first _ _ c.read.ensures.outcome c.in_ok-record.was
-    ∙ rw (c.in_ok-count.ensures.1, right) (entries_small _ _ _ _ tested c.in_ok-refuse_large_elements.was))
+    let small = elements_test c.args.bytes.now _ _ _ _ e c.refuse_large_elements.ensures in
+    done_first _ _ c.read.ensures.outcome c.in_ok-record.was
+    ∙ rw (c.in_ok-count.ensures.1, right) (entries_small _ _ _ _ small c.in_ok-refuse_large_elements.was)
+
+pub invariant_of-result : goal.invariant_of-result
+invariant_of-result c =
+    let bytes : Small 8 c.args.random.now = λ j. omega (arith, c.type_inv.random j) in
+    let call = passed_call _ _ _ _ _ bytes (outcome (goal.at.invariant_of-result c).In_ok-refuse_large_elements (lengths (goal.at.invariant_of-result c).After-lengths_fit)) in
+    record { passed = passed_lem c.args.bytes.now c.in_ok-record.ensures.record.0 c.in_ok-record.ensures.record.1 c.in_ok-count.ensures.0 call.0 }
+
+pub returns-clause-outcome : goal.returns-clause-outcome
+returns-clause-outcome c =
+    ap (λ (n : ℕ). done (n ∷ [])) (width_is c.args.bytes.now c.in_ok-record.ensures.record.0)
+    ∙ sym (outcome (goal.at.returns-clause-outcome c).In_ok-refuse_large_elements (lengths (goal.at.returns-clause-outcome c).After-lengths_fit))

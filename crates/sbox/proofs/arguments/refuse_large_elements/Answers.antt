@@ -1,14 +1,14 @@
 -- `refuse_large_elements` meets its contract: the shares, and then the random elements that are tested.
 use mathlib.Core.List.{[]}
-use mathlib.Core.Path.{◌≡◌, ◌∙◌, sym, ap}
+use mathlib.Core.Path.{◌≡◌, ◌∙◌, sym}
 use Prim.Native.Nat.{ℕ, ◌+◌, ◌^◌}
 use native.Mathlib.Omega.{arith}
 use borrow.Author.Tests.{eq-eqb, ne_eqb}
 use lib.ListN.{length}
-use Rattle.refusal.specs.Outcome.{done, refused}
+use Rattle.refusal.specs.Outcome.{done}
 use Rattle.refusal.specs.Refusals.{nothing}
 use Rattle.refusal.proofs.Exits.{reports, entry_large, entries_small}
-use Rattle.refusal.proofs.Large.{below_fails, below_passes, found_some, found_nothing}
+use Rattle.refusal.proofs.Large.{below_passes}
 use Rattle.steps.specs.Tape.{elements}
 use Rattle.sbox.specs.Operations.{tested_random}
 use Rattle.sbox.proofs.Tests.{test_two}
@@ -29,23 +29,15 @@ returns-then-layout-eq4 c =
     rw none (sym (test_two bound c.args.shares.now [] (done []) ∙ entries_small _ _ _ _ tested c.in_ok-refuse_large.was
     ∙ below_passes bound (length c.args.shares.now) [] (done []) (omega arith)))
 
-pub returns-in-Some : goal.returns-in-Some
+pub refuse_large_random-requires-clause-one_a_byte : goal.refuse_large_random-requires-clause-one_a_byte
+refuse_large_random-requires-clause-one_a_byte c = ne_eqb _ 4 c.if-layout-eq4.false
+
+pub returns : goal.returns
 unfolding tested_random
-returns-in-Some c =
+returns c =
     let tested = rw c.requires.inputs.0 at c.refuse_large.ensures in
     -- else all are
     let all : tested_random c.args.layout.now.width c.args.random.now ≡ elements c.args.layout.now.width c.args.random.now =
     rw (ne_eqb _ 4 c.if-layout-eq4.false) in
-    let place = found_some (sym (rw c.requires.inputs.0 at c.first_large_element.ensures) ∙ c.in-Some.is) in
-    rw all
-    (sym (test_two _ _ _ _ ∙ entries_small _ _ _ _ tested c.in_ok-refuse_large.was ∙ below_fails _ _ _ _ place.0
-    ∙ ap (λ (x : ℕ). refused 3 (length c.args.shares.now + x)) place.1))
-
-pub returns-in-None : goal.returns-in-None
-unfolding tested_random
-returns-in-None c =
-    let tested = rw c.requires.inputs.0 at c.refuse_large.ensures in
-    let all : tested_random c.args.layout.now.width c.args.random.now ≡ elements c.args.layout.now.width c.args.random.now =
-    rw (ne_eqb _ 4 c.if-layout-eq4.false) in
-    let small = found_nothing (sym (rw c.requires.inputs.0 at c.first_large_element.ensures) ∙ c.in-None.is) in
-    rw all (sym (test_two _ _ _ _ ∙ entries_small _ _ _ _ tested c.in_ok-refuse_large.was ∙ below_passes _ _ _ _ small))
+    let rest = rw c.requires.inputs.0 at c.refuse_large_random.ensures in
+    rest ∙ rw all (sym (test_two _ _ _ _ ∙ entries_small _ _ _ _ tested c.in_ok-refuse_large.was))

@@ -9,19 +9,20 @@ use Rattle.sbox.specs.TableSteps as spec
 use Rattle.sbox.proofs.polynomial_rows.polynomials.Goals as goal
 
 -- what is lent of the coefficients is as many as a polynomial has
-own : (e first : ℕ) → first + e + 1 - first ≡ e + 1
-own e first = omega arith
+own : (first e : ℕ) → first + e - first ≡ e
+own first e = omega arith
 
 pub polynomial-requires-clause-ready : goal.polynomial-requires-clause-ready
 unfolding spec.polynomial_row spec.coefficients_at
 polynomial-requires-clause-ready g c =
-    rw (own g.row.POWERS (c.loop-j.j * (g.row.POWERS + 1))) (ready_first _ _ (going_ready c.loop-j.invariant c.requires.ready c.loop-j-test.true))
+    rw (c.POWERS-size.ensures, own (c.loop-j.j * (g.F.NarrowField.POWERS + 1)) (g.F.NarrowField.POWERS + 1))
+    (ready_first _ _ (going_ready c.loop-j.invariant c.requires.ready c.loop-j-test.true))
 
 pub loop-j-preserved : goal.loop-j-preserved
 unfolding spec.polynomial_row spec.coefficients_at
 loop-j-preserved g c =
-    let went = rw (own g.row.POWERS (c.loop-j.j * (g.row.POWERS + 1))) at c.polynomial.ensures in
-    going_on c.loop-j.invariant c.requires.ready c.loop-j-test.true (went_map (λ row. set c.loop-j.t (c.args.z + c.loop-j.j) row) went)
+    let went = rw (c.POWERS-size.ensures, own (c.loop-j.j * (g.F.NarrowField.POWERS + 1)) (g.F.NarrowField.POWERS + 1)) at c.polynomial.ensures in
+    going_on c.loop-j.invariant c.requires.ready c.loop-j-test.true (went_map (λ row. set c.loop-j.out c.loop-j.j row) went)
 
 pub returns : goal.returns
 returns g c = gone c.loop-j.invariant c.loop-j-test.false

@@ -6,5 +6,5 @@ use Rattle.sbox.proofs.polynomial_rows.polynomials.Given as goal
 
 abbrev pub invariant-loop-j : goal.invariant-loop-j
 invariant-loop-j g l =
-    Going (spec.polynomial_row g.F.Field.WIDTH l.fn.s.count (g.row.POWERS + 1) l.fn.coefficients l.fn.z)
-    0 l.fn.count l.initial.t (g.M.Machine.state l.initial.machine) l.j l.t (g.M.Machine.state l.machine)
+    Going (spec.polynomial_row g.F.Field.WIDTH l.fn.s.count (g.F.NarrowField.POWERS + 1) l.fn.coefficients l.fn.t)
+    0 l.fn.count l.initial.out (g.M.Machine.state l.initial.machine) l.j l.out (g.M.Machine.state l.machine)

@@ -8,14 +8,14 @@ use Rattle.sbox.proofs.TableClasses.{class_of}
 use Rattle.sbox.proofs.power_rows.power_class.Goals as goal
 
 pub overflow_add-z : goal.overflow_add-z
-overflow_add-z g c = omega (arith, (class_of _ c.requires.known _ c.requires.factors.0).few)
+overflow_add-z g c = omega (arith, (class_of _ g.met.F.NarrowField.decomposed _ c.requires.factors.0).few)
 
 pub overflow_mul-z : goal.overflow_mul-z
-overflow_mul-z g c = rw c.WIDTH-width.ensures (omega (arith, (class_of _ c.requires.known _ c.requires.factors.0).rows))
+overflow_mul-z g c = rw c.WIDTH-width.ensures (omega (arith, (class_of _ g.met.F.NarrowField.decomposed _ c.requires.factors.0).rows))
 
 pub multiply_rows-requires-clause-bounds : goal.multiply_rows-requires-clause-bounds
 multiply_rows-requires-clause-bounds g c =
-    let class = class_of _ c.requires.known _ c.requires.factors.0 in
+    let class = class_of _ g.met.F.NarrowField.decomposed _ c.requires.factors.0 in
     rw c.WIDTH-width.ensures (
       omega (arith, class.first, class.rows, ap (λ (f : ℕ × ℕ). f.0) c.requires.factors.1),
       omega (arith, class.second, class.rows, ap (λ (f : ℕ × ℕ). f.1) c.requires.factors.1),
@@ -29,10 +29,12 @@ multiply_rows-requires-clause-ready g c =
     (ready_first _ _ c.requires.ready)
 
 pub overflow_add-z-2 : goal.overflow_add-z-2
-overflow_add-z-2 g c = rw c.WIDTH-width.ensures (omega (arith, (class_of _ c.requires.known _ c.requires.factors.0).rows))
+overflow_add-z-2 g c = rw c.WIDTH-width.ensures (omega (arith, (class_of _ g.met.F.NarrowField.decomposed _ c.requires.factors.0).rows))
 
 pub square_rows-requires-clause-last_bound : goal.square_rows-requires-clause-last_bound
-square_rows-requires-clause-last_bound g c = rw c.WIDTH-width.ensures (omega (arith, (class_of _ c.requires.known _ c.requires.factors.0).rows, (class_of _ c.requires.known _ c.requires.factors.0).wide))
+square_rows-requires-clause-last_bound g c =
+    let class = class_of _ g.met.F.NarrowField.decomposed _ c.requires.factors.0 in
+    rw c.WIDTH-width.ensures (omega (arith, class.rows, class.wide))
 
 pub square_rows-requires-clause-ready : goal.square_rows-requires-clause-ready
 unfolding spec.power_class

@@ -4,4 +4,4 @@ use Rattle.sbox.specs.TableSteps as spec
 use Rattle.sbox.proofs.product_rows.products.Given as goal
 
 abbrev pub invariant-loop-j : goal.invariant-loop-j
-invariant-loop-j g l = Going (spec.product_row g.F.Field.WIDTH l.fn.s.count l.fn.q l.fn.p) 0 l.fn.h l.initial.t (g.M.Machine.state l.initial.machine) l.j l.t (g.M.Machine.state l.machine)
+invariant-loop-j g l = Going (spec.product_row g.F.Field.WIDTH l.fn.s.count l.fn.q) 0 l.fn.h l.initial.p (g.M.Machine.state l.initial.machine) l.j l.p (g.M.Machine.state l.machine)

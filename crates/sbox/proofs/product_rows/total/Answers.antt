@@ -1,21 +1,27 @@
--- `total` meets its contract: a loop over the shares.
-use lib.ListN.{set}
-use Rattle.steps.proofs.Loop.{going_ready, going_on, gone}
-use Rattle.steps.proofs.Parts.{ready_first, went_map}
-use Rattle.product.specs.ByShare as by_share
+-- `total` meets its contract: it is made share by share.
+use mathlib.Core.List.{List}
+use Prim.Native.Nat.{ℕ}
+use borrow.Author.Rules.{rules}
+use Rattle.steps.specs.Program.{Run, for}
+use Rattle.steps.specs.Sharing.{share}
+use Rattle.product.specs.ByShare.{nth}
 use Rattle.sbox.specs.Sbox as sbox
 use Rattle.sbox.specs.TableSteps as spec
 use Rattle.sbox.proofs.product_rows.total.Goals as goal
 
-pub total_share-requires-clause-ready : goal.total_share-requires-clause-ready
-unfolding sbox.total by_share.by_share spec.add_next
-total_share-requires-clause-ready g c = ready_first _ _ (going_ready c.loop-i.invariant c.requires.ready c.loop-i-test.true)
+-- share i
+abbrev total_in : List (List ℕ) → ℕ → ℕ → Run ℕ
+total_in terms h i = for 0 h (spec.add_next terms i) (share (nth terms 0) i)
 
-pub loop-i-preserved : goal.loop-i-preserved
-unfolding sbox.total by_share.by_share spec.add_next
-loop-i-preserved g c =
-    going_on c.loop-i.invariant c.requires.ready c.loop-i-test.true (went_map (λ v. set c.loop-i.c c.loop-i.i v) c.total_share.ensures)
+pub by_share-requires : goal.by_share-requires
+unfolding sbox.total spec.add_next
+by_share-requires g c =
+    let few = c.args.s.few in
+    (total_in c.args.terms.now c.args.h, record { callable = λ i m lt y. search rules; runs = λ i v m n lt r. search rules }, c.requires.ready)
 
 pub returns : goal.returns
-unfolding sbox.total by_share.by_share spec.add_next
-returns g c = gone c.loop-i.invariant c.loop-i-test.false
+unfolding sbox.total spec.add_next
+returns g c =
+    let few = c.args.s.few in
+    c.by_share.ensures (total_in c.args.terms.now c.args.h)
+    (record { callable = λ i m lt y. search rules; runs = λ i v m n lt r. search rules }) c.requires.ready

@@ -2,16 +2,12 @@
 use borrow.Author.Rules.{rules}
 use Rattle.xor.proofs.Xor.{⊕-is}
 use Rattle.steps.specs.Operations.{masked_byte}
-use Rattle.steps.proofs.Fill.{fill_none, fill_more, filled}
+use Rattle.steps.proofs.Fill.{fill_turn, filled}
 use Rattle.steps.proofs.splitting.first_share.Goals as goal
-
-pub loop-j-init : goal.loop-j-init
-loop-j-init c = fill_none _ _
 
 pub loop-j-preserved : goal.loop-j-preserved
 unfolding masked_byte
-loop-j-preserved c =
-    rw (⊕-is, c.column_sum.ensures, c.loop-j.invariant) (fill_more _ _ _ (search rules))
+loop-j-preserved c = fill_turn _ _ _ _ _ c.loop-j.invariant (rw (⊕-is, c.column_sum.ensures)) (search rules)
 
 pub returns : goal.returns
 returns c = filled _ _ c.loop-j.invariant (search rules) (search rules)

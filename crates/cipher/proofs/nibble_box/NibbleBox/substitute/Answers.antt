@@ -13,16 +13,16 @@ run-y-requires g c =
     rw (c.args.self.now.four, layout_width 4 4, layout_outputs 4 4)
     record {
       of_pair = record { pair = same_pair 4 refl; layout_is = refl };
-      ready = (nibble_prepared (sbox_of c.args.self.now c.args.s.count) c.args.k (sharing c.args.w c.args.s.count c.args.l.now) _
+      ready = (nibble_prepared (sbox_of c.args.self.now c.args.s.shares.count) c.args.k (sharing c.args.w c.args.s.shares.count c.args.l.now) _
           c.column-x.ensures c.requires.prepared).ready;
     }
 
 pub replace_column-requires-clause-v_sharing : goal.replace_column-requires-clause-v_sharing
 replace_column-requires-clause-v_sharing g c =
-    nibble_given c.args.self.now.record.coefficients.now c.args.self.now.small c.args.w c.args.k c.args.s.count c.args.l.now c.requires.in_bounds.0 c.args.s.few
+    nibble_given c.args.self.now.record.coefficients.now c.args.self.now.small c.args.w c.args.k c.args.s.shares.count c.args.l.now c.args.s.some c.args.s.shares.few
     c.column-x.ensures c.requires.prepared.nibbles (rw (c.args.self.now.four, layout_width 4 4, layout_outputs 4 4) at c.run-y.ensures)
 
 pub returns-clause-went : goal.returns-clause-went
 returns-clause-went g c =
-    nibble_substituted (sbox_of c.args.self.now c.args.s.count) c.args.k (sharing c.args.w c.args.s.count c.args.l.now) _ c.column-x.ensures _ _
+    nibble_substituted (sbox_of c.args.self.now c.args.s.shares.count) c.args.k (sharing c.args.w c.args.s.shares.count c.args.l.now) _ c.column-x.ensures _ _
     (rw (c.args.self.now.four, layout_width 4 4, layout_outputs 4 4) at c.run-y.ensures) c.replace_column.ensures.l_after

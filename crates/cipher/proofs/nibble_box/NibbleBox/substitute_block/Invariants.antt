@@ -7,6 +7,6 @@ use Rattle.cipher.proofs.nibble_box.NibbleBox.substitute_block.Given as goal
 
 abbrev pub invariant-loop-k : goal.invariant-loop-k
 invariant-loop-k g l =
-    Going (masked_nibble (sbox_of l.self l.s.count)) 0 16 (sharing 8 l.s.count l.initial.block) (g.M.Machine.state l.initial.machine)
-    l.k (sharing 8 l.s.count l.block) (g.M.Machine.state l.machine)
-    × KeptPast 8 l.s.count l.initial.block l.block
+    Going (masked_nibble (sbox_of l.self l.s.shares.count)) 0 16 (sharing 8 l.s.shares.count l.initial.block) (g.M.Machine.state l.initial.machine)
+    l.k (sharing 8 l.s.shares.count l.block) (g.M.Machine.state l.machine)
+    × KeptPast 8 l.s.shares.count l.initial.block l.block

@@ -6,22 +6,22 @@ use Rattle.cipher.proofs.rounds.RoundState.round.Goals as goal
 
 pub add_round_key-requires : goal.add_round_key-requires
 unfolding masked_round
-add_round_key-requires g c = (prepared_first _ _ c.requires.prepared).ready
+add_round_key-requires g c = (prepared_first _ _ c.requires).ready
 
-pub substitute_block-requires-clause-prepared : goal.substitute_block-requires-clause-prepared
+pub substitute_block-requires : goal.substitute_block-requires
 unfolding masked_round
-substitute_block-requires-clause-prepared g c = prepared_first _ _ (prepared_next _ c.requires.prepared c.add_round_key.ensures.went)
+substitute_block-requires g c = prepared_first _ _ (prepared_next _ c.requires c.add_round_key.ensures.went)
 
 pub linear_map-requires-clause-ready : goal.linear_map-requires-clause-ready
 unfolding masked_round masked_permute
 linear_map-requires-clause-ready g c =
-    let layer = prepared_next _ c.requires.prepared c.add_round_key.ensures.went in
+    let layer = prepared_next _ c.requires c.add_round_key.ensures.went in
     (prepared_first _ _ (prepared_next _ layer c.substitute_block.ensures.went)).ready
 
-pub update_key-requires-clause-prepared : goal.update_key-requires-clause-prepared
+pub update_key-requires : goal.update_key-requires
 unfolding masked_round masked_permute
-update_key-requires-clause-prepared g c =
-    let layer = prepared_next _ c.requires.prepared c.add_round_key.ensures.went in
+update_key-requires g c =
+    let layer = prepared_next _ c.requires c.add_round_key.ensures.went in
     let permutation = prepared_next _ layer c.substitute_block.ensures.went in
     prepared_first _ _ (prepared_next _ permutation c.linear_map.ensures.went)
 

@@ -1,20 +1,17 @@
 -- `RoundState::rounds` meets its contract: a loop over the rounds.
-use mathlib.Core.Path.{refl, ◌∙◌}
-use Rattle.steps.proofs.Loop.{going, going_on, gone}
+use mathlib.Core.Path.{◌∙◌}
+use Rattle.steps.proofs.Loop.{going_on, gone}
 use Rattle.cipher.proofs.Prepared.{prepared_turn}
 use Rattle.cipher.proofs.rounds.RoundState.rounds.Goals as goal
 
-pub loop-r-init : goal.loop-r-init
-loop-r-init g c = (going, refl)
-
-pub round-requires-clause-prepared : goal.round-requires-clause-prepared
-round-requires-clause-prepared g c = rw c.loop-r.invariant.1 (prepared_turn (rw c.loop-r.invariant.1 at c.loop-r.invariant.0) c.requires c.loop-r-test.true)
+pub round-requires : goal.round-requires
+round-requires g c = rw c.loop-r.invariant.1 (prepared_turn (rw c.loop-r.invariant.1 at c.loop-r.invariant.0) c.requires c.loop-r-test.true)
 
 pub loop-r-preserved : goal.loop-r-preserved
 loop-r-preserved g c = (
   going_on (rw c.loop-r.invariant.1 at c.loop-r.invariant.0) c.requires.ready c.loop-r-test.true (rw c.loop-r.invariant.1 at c.round.ensures.went),
-  c.round.ensures.same_shares ∙ c.loop-r.invariant.1,
+  c.round.ensures.same_count ∙ c.loop-r.invariant.1,
 )
 
-pub returns : goal.returns
-returns g c = record { went = gone c.loop-r.invariant.0 c.loop-r-test.false; same_shares = c.loop-r.invariant.1 }
+pub returns-clause-went : goal.returns-clause-went
+returns-clause-went g c = gone c.loop-r.invariant.0 c.loop-r-test.false

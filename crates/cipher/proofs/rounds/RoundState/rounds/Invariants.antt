@@ -8,6 +8,6 @@ use Rattle.cipher.proofs.rounds.RoundState.rounds.Given as goal
 
 abbrev pub invariant-loop-r : goal.invariant-loop-r
 invariant-loop-r g l =
-    Going (masked_round (sbox_of l.nibble_box l.initial.self.shares.count) size80 l.initial.self.shares.count) 1 32
+    Going (masked_round (sbox_of l.nibble_box l.initial.self.count.shares.count) size80 l.initial.self.count.shares.count) 1 32
     (sharings l.initial.self) (g.M.Machine.state l.initial.machine) l.r (sharings l.self) (g.M.Machine.state l.machine)
-    × (l.self.shares ≡ l.initial.self.shares)
+    × (l.self.count ≡ l.initial.self.count)

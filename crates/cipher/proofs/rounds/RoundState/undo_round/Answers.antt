@@ -6,22 +6,22 @@ use Rattle.cipher.proofs.rounds.RoundState.undo_round.Goals as goal
 
 pub linear_map-requires-clause-ready : goal.linear_map-requires-clause-ready
 unfolding masked_undo_round masked_unpermute
-linear_map-requires-clause-ready g c = (prepared_first _ _ c.requires.prepared).ready
+linear_map-requires-clause-ready g c = (prepared_first _ _ c.requires).ready
 
-pub substitute_block-requires-clause-prepared : goal.substitute_block-requires-clause-prepared
+pub substitute_block-requires : goal.substitute_block-requires
 unfolding masked_undo_round masked_unpermute
-substitute_block-requires-clause-prepared g c = prepared_first _ _ (prepared_next _ c.requires.prepared c.linear_map.ensures.went)
+substitute_block-requires g c = prepared_first _ _ (prepared_next _ c.requires c.linear_map.ensures.went)
 
-pub undo_update-requires-clause-prepared : goal.undo_update-requires-clause-prepared
+pub undo_update-requires : goal.undo_update-requires
 unfolding masked_undo_round masked_unpermute
-undo_update-requires-clause-prepared g c =
-    let layer = prepared_next _ c.requires.prepared c.linear_map.ensures.went in
+undo_update-requires g c =
+    let layer = prepared_next _ c.requires c.linear_map.ensures.went in
     prepared_first _ _ (prepared_next _ layer c.substitute_block.ensures.went)
 
 pub add_round_key-requires : goal.add_round_key-requires
 unfolding masked_undo_round masked_unpermute
 add_round_key-requires g c =
-    let layer = prepared_next _ c.requires.prepared c.linear_map.ensures.went in
+    let layer = prepared_next _ c.requires c.linear_map.ensures.went in
     let update = prepared_next _ layer c.substitute_block.ensures.went in
     (prepared_first _ _ (prepared_next _ update c.undo_update.ensures.went)).ready
 

@@ -9,7 +9,7 @@ use Rattle.cipher.proofs.rounds.RoundState.undo_rounds.Given as goal
 
 abbrev pub invariant-loop-r : goal.invariant-loop-r
 invariant-loop-r g l =
-    Going (λ i. masked_undo_round (sbox_of l.inverse l.initial.self.shares.count) size80 l.initial.self.shares.count (32 - i)) 1 32
+    Going (λ i. masked_undo_round (sbox_of l.inverse l.initial.self.count.shares.count) size80 l.initial.self.count.shares.count (32 - i)) 1 32
     (sharings l.initial.self) (g.M.Machine.state l.initial.machine) (33 - l.r) (sharings l.self) (g.M.Machine.state l.machine)
-    × (l.self.shares ≡ l.initial.self.shares)
+    × (l.self.count ≡ l.initial.self.count)
     × (l.r ≤ 32)

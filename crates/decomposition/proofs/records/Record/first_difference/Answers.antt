@@ -1,23 +1,29 @@
--- `Record::first_difference` meets its contract: where the output and the table differ, they agree at the inputs passed.
-use mathlib.Core.Path.{◌∙◌, ap}
-use Prim.Native.Nat.{ℕ, ◌%◌}
-use native.Mathlib.Omega.{arith}
-use Rattle.decomposition.proofs.Differences.{found_difference, none_different}
+-- `Record::first_difference` meets its contract: the search goes by the test of the definition.
+use mathlib.Core.Path.{◌≡◌, refl}
+use Prim.Native.Nat.{ℕ, ◌≤◌, ◌<◌, ◌%◌}
+use Rattle.std.proofs.Common.{rules, tests}
+use Rattle.std.proofs.iter.Serving.{serving}
+use Rattle.std.proofs.lemmas.Iterator.{first_from_Range}
+use lib.ListN.{get_or}
+use Rattle.decomposition.specs.Check.{form_in}
+use Rattle.decomposition.proofs.Differences.{difference_found}
 use Rattle.decomposition.proofs.Sizes.{entries_few, some_entries}
 use Rattle.decomposition.proofs.Whole.{sizes_of}
 use Rattle.decomposition.proofs.records.Record.first_difference.Goals as goal
 
-pub overflow_cast-self : goal.overflow_cast-self
-overflow_cast-self c = let z = sizes_of c.args.self.now.sizes in omega (arith, entries_few z, z.byte)
-
-pub nonzero_rem-form : goal.nonzero_rem-form
-nonzero_rem-form c = let z = sizes_of c.args.self.now.sizes in omega (arith, entries_few z, some_entries z)
-
-pub returns-then-form-self : goal.returns-then-form-self
-returns-then-form-self c =
+pub find-requires-clause-callable : goal.find-requires-clause-callable
+find-requires-clause-callable c =
     let L = c.args.self.now.layout in
-    found_difference _ _ c.loop-x.x c.loop-x-test.true c.loop-x.invariant
-    (λ e. c.if-form-self.true (ap (λ (y : ℕ). y % L.entries) c.form.ensures ∙ e))
+    let z = sizes_of c.args.self.now.sizes in
+    let few : L.entries ≤ L.inputs = entries_few z in
+    let some : 0 < L.entries = some_entries z in
+    let byte : L.inputs < 256 = z.byte in
+    grind (serving, few, some, byte)
 
 pub returns : goal.returns
-returns c = none_different _ _ (λ k h. c.loop-x.invariant k (omega (arith, h, c.loop-x-test.false)))
+returns c =
+    let L = c.args.self.now.layout in
+    let output = λ (x : ℕ). form_in L c.args.self.now.coefficients.now x % L.entries in
+    difference_found output c.args.table.now c.find.result refl
+    (first_from_Range _ _ _ c.find.result (λ x. output x ≡ get_or c.args.table.now x 0 → ⊥) (λ x. output x ≡ get_or c.args.table.now x 0) c.find.ensures.ran
+    (λ x q k. search (rules, tests)) (λ x q k. search (rules, tests)))

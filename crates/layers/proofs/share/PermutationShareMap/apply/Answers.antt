@@ -8,4 +8,4 @@ use Rattle.layers.proofs.share.PermutationShareMap.apply.Goals as goal
 
 pub returns : goal.returns
 returns c =
-    from_written 8 _ _ c.put_number.ensures (omega arith) (search rules) ∙ c.permute.ensures ∙ ap permute c.number-x.ensures.0
+    from_written 8 _ _ c.write_u64.ensures (omega arith) (search rules) ∙ c.permute.ensures ∙ ap permute c.read_u64-x.ensures

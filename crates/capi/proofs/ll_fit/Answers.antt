@@ -1,6 +1,0 @@
--- `capi::ll_fit` meets its contract: the words are those of the answer.
-use Rattle.capi.proofs.Words.{reported_fit}
-use Rattle.capi.proofs.ll_fit.Goals as goal
-
-pub returns : goal.returns
-returns c = reported_fit _ c.fit.ensures c.answer_words.ensures

@@ -1,6 +1,0 @@
--- `capi::ll_sbox_watch` meets its contract: the words are those of the answer.
-use Rattle.capi.proofs.Words.{reported}
-use Rattle.capi.proofs.ll_sbox_watch.Goals as goal
-
-pub returns : goal.returns
-returns c = reported c.watch_sbox.ensures c.answer_words.ensures

@@ -1,6 +1,0 @@
--- `draw_count` of Block meets its contract: sealing is right.
-use Rattle.cipher.proofs.Theorems.{sealed_right}
-use Rattle.cipher.proofs.enciphering.SealingCiphering.draw_count.Goals as goal
-
-pub returns-clause-right : goal.returns-clause-right
-returns-clause-right c = sealed_right _ c.args.self.now.nibble_box.small c.args.self.now.realizes c.args.s.count c.requires c.args.s.few

@@ -2,8 +2,10 @@
 use mathlib.Core.Logic.{inl, inr, ⊎_elim}
 use mathlib.Core.Path.{◌≡◌, refl}
 use Prim.Native.Nat.{ℕ, suc, ◌+◌, ◌-◌, ◌*◌, ◌/◌, ◌%◌, ◌^◌, ◌≤◌, ◌<◌}
-use native.Mathlib.Nat.{lt_of_le_of_lt, lt_of_lt_of_le, mul-le-mul_left}
+use native.Mathlib.Nat.{lt_of_le_of_lt, lt_of_lt_of_le, mul-le-mul_left, le_trans, le_of_eq, mul-one}
 use native.Mathlib.Omega.{arith}
+use mir.Syntax.{w8}
+use mir.Val.{Fits}
 use Rattle.xor.specs.Xor.{◌⊕◌}
 use Rattle.xor.proofs.Xor.{⊕-lt}
 use Rattle.field.specs.Mul.{Width, Narrow, reduction, double, mul}
@@ -61,6 +63,13 @@ double_byte n a w =
     below n k e h l = rw e (lt_of_lt_of_le (double_lt k h a) l)
 
 -- ---- the product
+
+-- a byte times a bit is a byte
+pub bit_fits : (a b : ℕ) → a < 2 ^ 8 → Fits w8 (a * (b % 2))
+bit_fits a b h = record { fits = lt_of_le_of_lt (le_trans (mul-le-mul_left a bit) (le_of_eq (mul-one a))) h }
+  where
+    bit : b % 2 ≤ 1
+    bit = omega arith
 
 -- a byte times a factor 0 or 2 has nine bits, and so has its sum with nine bits
 pub term_lt : (a b : ℕ) → a < 2 ^ 8 → a * (b % 2 * 2) < 2 ^ 9

@@ -98,6 +98,22 @@ pub trait Field {
         }
         (sum / 2) as u8
     }
+
+    // The same product of public values, in bytes: in loops over rows the compiler does many bytes at once (Fit at (4, 4) takes two thirds of the time), and a
+    // choice by a bit tells nothing there.
+    final fn multiply_public(a: u8, b: u8) -> u8
+        ensures { result ≡ spec.mul WIDTH a b }
+    {
+        let mut sum: u8 = 0;
+        let mut term = a;
+        let mut left = b;
+        for _k in 0..Self::WIDTH {
+            sum ^= term * (left % 2);
+            term = Self::double(term);
+            left /= 2;
+        }
+        sum
+    }
 }
 
 // The field of 16 elements.
@@ -193,9 +209,9 @@ pub fn mul(width: u32, a: u8, b: u8) -> u8
     ensures { result ≡ spec.mul width a b }
 {
     if width == 4 {
-        Gf16::multiply(a, b)
+        Gf16::multiply_public(a, b)
     } else {
-        Gf64::multiply(a, b)
+        Gf64::multiply_public(a, b)
     }
 }
 

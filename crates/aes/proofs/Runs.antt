@@ -12,11 +12,12 @@ use Rattle.steps.specs.Program.{Run, return, one, ◌>>=◌, ◌>>◌, note, loo
 use Rattle.steps.specs.Sharing.{share}
 use Rattle.steps.specs.Machine.{State, Ended, recorded, recorded_all, exec, Ready, Went}
 use Rattle.steps.proofs.Parts.{ready_first, went_map}
-use Rattle.product.specs.ByShare.{constant}
+use Rattle.steps.proofs.StepsAlone.{StepsAlone, alone_return, alone_bind, alone_then, alone_note, alone_for}
+use Rattle.product.specs.ByShare.{by_share, constant, square}
 use Rattle.rijndael.specs.Strings.{byte_at, note_bytes, record_string, make_shares, take_at, put_shares}
-use Rattle.rijndael.specs.Rijndael.{linear_part, affine_constant, rcon}
-use Rattle.rijndael.specs.Masked.{masked_rcon, masked_sub_byte}
-use Rattle.aes.specs.Sbox.{affine_share}
+use Rattle.rijndael.specs.Rijndael.{linear_part, affine_constant, rcon, Expanding}
+use Rattle.rijndael.specs.Masked.{masked_shift_rows, masked_mix_columns, masked_add_round_key, masked_rot_word, masked_rcon, masked_new_word, masked_sub_byte}
+use Rattle.aes.specs.Sbox.{sixteenth, powers, affine_share, affine}
 
 -- ---- recording
 
@@ -89,3 +90,50 @@ module _ (r : ℕ) (t : List ℕ) {s : State} where
   pub rcon_went : (v : ℕ) {s' : State} → v ≡ byte_at t 0 ⊕ byte_at (rcon r) 0 → s' ≡ recorded v s → Went (masked_rcon r t) s (set t 0 v) s'
   unfolding masked_rcon note ◌>>=◌ exec
   rcon_went v ev e = record { runs = rw (e, ev) refl }
+
+-- ---- which parts take steps alone
+
+recorded_alone : (m s : ℕ) (a : List ℕ) → StepsAlone (record_string m s a)
+unfolding record_string note_bytes
+recorded_alone m s a = alone_then (alone_for 0 (s * m) (λ p u. alone_then (alone_note _ _) alone_return) tt) alone_return
+
+pub shift_alone : (s : ℕ) (a : List ℕ) → StepsAlone (masked_shift_rows s a)
+unfolding masked_shift_rows
+shift_alone s a = recorded_alone 16 s _
+
+pub mix_alone : (s : ℕ) (a : List ℕ) → StepsAlone (masked_mix_columns s a)
+unfolding masked_mix_columns
+mix_alone s a = recorded_alone 16 s _
+
+pub key_alone : (s r : ℕ) (w a : List ℕ) → StepsAlone (masked_add_round_key s r w a)
+unfolding masked_add_round_key
+key_alone s r w a = recorded_alone 16 s _
+
+pub rot_alone : (s r : ℕ) (w : List ℕ) → StepsAlone (masked_rot_word s r w)
+unfolding masked_rot_word
+rot_alone s r w = recorded_alone 4 s _
+
+pub rcon_alone : (r : ℕ) (t : List ℕ) → StepsAlone (masked_rcon r t)
+unfolding masked_rcon
+rcon_alone r t = alone_bind (alone_note _ _) (λ v. alone_return)
+
+pub words_alone : (s r : ℕ) (a : Expanding) → StepsAlone (for 0 4 (λ t. masked_new_word s (4 * r + t)) a)
+unfolding masked_new_word
+words_alone s r a = alone_for 0 4 (λ t b. alone_bind (recorded_alone 4 s _) (λ v. alone_return)) a
+
+square_alone : (s : ℕ) (a : List ℕ) → StepsAlone (square 8 s a)
+unfolding square by_share
+square_alone s a = alone_for 0 s (λ i c. alone_bind (alone_note _ _) (λ v. alone_return)) _
+
+pub powers_alone : (s : ℕ) (a : List ℕ) → StepsAlone (powers s a)
+unfolding powers
+powers_alone s a =
+    alone_bind (square_alone s a) (λ y₂. alone_bind (square_alone s y₂) (λ y₄. alone_bind (square_alone s y₄) (λ y₈. alone_return)))
+
+pub sixteenth_alone : (s : ℕ) (a : List ℕ) → StepsAlone (sixteenth s a)
+unfolding sixteenth
+sixteenth_alone s a = alone_bind (powers_alone s a) (λ p. square_alone s p.eighth)
+
+pub affine_alone : (s : ℕ) (a : List ℕ) → StepsAlone (affine s a)
+unfolding affine by_share affine_share
+affine_alone s a = alone_for 0 s (λ i c. alone_bind (alone_note _ _) (λ v. alone_return)) _

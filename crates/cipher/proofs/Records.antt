@@ -2,7 +2,7 @@
 use mathlib.Core.Path.{◌≡◌, refl, sym, ap, ap₂, ◌∙◌}
 use mathlib.Core.Bool.{Bool, false, true}
 use mathlib.Core.List.{List, [], ◌∷◌}
-use Prim.Native.Nat.{ℕ, ◌%◌}
+use Prim.Native.Nat.{ℕ, ◌%◌, ◌≤◌}
 use native.Mathlib.Omega.{arith}
 use borrow.Author.Tests.{eqb-true, le-leb, lt-leb}
 use lib.Dec.{eqb}
@@ -14,8 +14,8 @@ use Rattle.refusal.specs.Large.{first_large, found}
 use Rattle.refusal.proofs.Outcome.{passed, then_passed}
 use Rattle.refusal.proofs.Large.{found_some, found_nothing}
 use Rattle.decomposition.specs.declared.layouts.Layout.{Layout}
-use Rattle.decomposition.specs.Layout.{layout, sized}
-use Rattle.decomposition.specs.Record.{coefficients_of, layout_of, width_of, outputs_of, read_outcome, Accepted}
+use Rattle.decomposition.specs.Layout.{layout, sized, record_size}
+use Rattle.decomposition.specs.Record.{coefficients_of, layout_of, version_of, width_of, outputs_of, read_outcome, Accepted}
 use Rattle.decomposition.specs.Check.{form_in, record_output, first_difference, check_outcome}
 use Rattle.decomposition.proofs.ReadOutcome.{read_values, read_accepted}
 use Rattle.decomposition.proofs.Sizes.{outputs_4, layout_width, layout_4_4}
@@ -134,6 +134,10 @@ module _ {t r : List ℕ} (h : RecordOf t r) where
 
   four : outputs_of r ≡ 4
   four = outputs_4 4 (outputs_of r) accepted.pair refl
+
+  -- it is as long as the code asks
+  pub record_room : record_size (version_of r) (layout 4 4) ≤ length r
+  record_room = let w = rw four at accepted.whole in omega (arith, w)
 
   -- they are nibbles,
   pub record_small : Small 4 (coefficients_of r)

@@ -10,9 +10,10 @@ use Rattle.steps.specs.Machine.{State, exec, Ready, Went}
 use Rattle.steps.specs.Sharing.{share, share_wise, alone}
 use Rattle.steps.proofs.Program.{for_once}
 use Rattle.steps.proofs.Parts.{ready_first, went_map}
+use Rattle.steps.proofs.StepsAlone.{StepsAlone, alone_return, alone_then, alone_note, alone_for}
 use Rattle.present.specs.Present.{nibble, Size, size80, round_number, number_nibble, top_nibble}
-use Rattle.present.specs.Masked.{note_nibbles, note_shares, recorded, add_round_number, masked_nibble, masked_top_nibbles}
-use Rattle.present.specs.Opening.{masked_back_top_nibbles}
+use Rattle.present.specs.Masked.{note_nibbles, note_shares, recorded, masked_add_round_key, masked_permute, masked_rotate, add_round_number, masked_nibble, masked_top_nibbles}
+use Rattle.present.specs.Opening.{masked_unpermute, masked_unrotate, masked_back_top_nibbles}
 
 -- ---- recording
 
@@ -56,6 +57,40 @@ module _ {m : State} where
       → b ≡ share_wise ◌⊕◌ a (alone (round_number z r)) → share b 0 ≡ x → Went (add_round_number z r a) m b m'
   unfolding add_round_number ◌>>◌
   number_went z r x a b w e f = rw (← e, f) (went_map (λ u. b) w)
+
+-- ---- the linear parts take steps alone
+
+nibbles_alone : (i k n x : ℕ) → StepsAlone (note_nibbles i k n x)
+unfolding note_nibbles
+nibbles_alone i k n x = alone_for k n (λ j u. alone_then (alone_note _ _) alone_return) tt
+
+recorded_alone : (m s : ℕ) (a : List ℕ) → StepsAlone (recorded m s a)
+unfolding recorded note_shares
+recorded_alone m s a = alone_then (alone_for 0 s (λ i u. nibbles_alone i 0 m _) tt) alone_return
+
+pub addition_alone : (z : Size) (s : ℕ) (k a : List ℕ) → StepsAlone (masked_add_round_key z s k a)
+unfolding masked_add_round_key
+addition_alone z s k a = recorded_alone _ s _
+
+pub permutation_alone : (s : ℕ) (a : List ℕ) → StepsAlone (masked_permute s a)
+unfolding masked_permute
+permutation_alone s a = recorded_alone _ s _
+
+pub rotation_alone : (z : Size) (s : ℕ) (k : List ℕ) → StepsAlone (masked_rotate z s k)
+unfolding masked_rotate
+rotation_alone z s k = recorded_alone _ s _
+
+pub unpermutation_alone : (s : ℕ) (a : List ℕ) → StepsAlone (masked_unpermute s a)
+unfolding masked_unpermute
+unpermutation_alone s a = recorded_alone _ s _
+
+pub unrotation_alone : (z : Size) (s : ℕ) (k : List ℕ) → StepsAlone (masked_unrotate z s k)
+unfolding masked_unrotate
+unrotation_alone z s k = recorded_alone _ s _
+
+pub number_alone : (z : Size) (r : ℕ) (k : List ℕ) → StepsAlone (add_round_number z r k)
+unfolding add_round_number
+number_alone z r k = alone_then (nibbles_alone _ _ _ _) alone_return
 
 -- ---- the S-box of the key update is that of its top nibble
 

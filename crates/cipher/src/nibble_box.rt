@@ -54,7 +54,13 @@ impl<'a> NibbleBox<'a> {
         ensures kept_past { KeptPast w s.shares.count l.old l.new }
     {
         let x = layers::column(w, s.shares, k, l);
-        let y = sbox::run(machine, s.shares, self.record, &x);
+        let y = sbox::run(
+            machine,
+            s.shares,
+            &self.record.layout,
+            self.record.coefficients,
+            &x,
+        );
         layers::replace_column(w, s.shares, k, &y, l);
     }
 

@@ -44,6 +44,10 @@ pub block_values : {w : ℕ} {M₀ M : ℕ → ℕ → ℕ} {row m c k : ℕ} {G
     → ((b j : ℕ) → b < m → c ≤ j → j < c + k → G b j ≡ H b j) → BlockWritten w M₀ M row m c k H
 block_values H x h = record { new = λ b j hb l g. x.new b j hb l g ∙ h b j hb l g; left = x.left; above = x.above }
 
+-- no row of a column
+pub block_start : (w : ℕ) (M : ℕ → ℕ → ℕ) (row c k : ℕ) (G : ℕ → ℕ → ℕ) → BlockWritten w M M row 0 c k G
+block_start w M row c k G = record { new = λ b j hb l g. absurd (omega arith); left = λ i j h. refl; above = λ i j h g. refl }
+
 -- ---- one column
 
 -- a bit that is put into row i at column c leaves the others as they were
@@ -112,6 +116,10 @@ input_block {L} z basis x v w a c =
 -- the rows of an input lie within the work
 pub rows_room : (m s : ℕ) {x R l : ℕ} → x < R → R * m * s ≤ l → (x * m + m) * s ≤ l
 rows_room m s {x} {R} h r = omega (arith, mul-le-mul_right s (row_room m h (le_refl (R * m))))
+
+-- no row is there yet
+pub bit_rows_none : (L : Layout) (table basis l : List ℕ) → BitRows L table basis 0 l
+bit_rows_none L table basis l = record { row = λ i h. absurd (omega arith) }
 
 -- one input more
 pub bit_rows_more : (L : Layout) (x : ℕ) (table basis l l' : List ℕ) → L.unknowns * L.width < L.stride * 8

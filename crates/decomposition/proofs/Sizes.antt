@@ -161,6 +161,12 @@ module _ {L : Layout} (z : Sizes L) where
   pub unknowns_few : L.unknowns ≤ 217
   unknowns_few = rw z.unknowns (mul-le-mul {n₂ = 7} {m₂ = 31} (omega (arith, z.few_terms)) (omega (arith, z.few_exponents)))
 
+  pub coefficients_few : L.coefficients ≤ 434
+  coefficients_few = omega (arith, z.coefficients, z.basis, unknowns_few)
+
+  pub work_few : L.inputs * (L.unknowns + 1) ≤ 55808
+  work_few = mul-le-mul {n₂ = 256} {m₂ = 218} (omega (arith, z.byte)) (omega (arith, unknowns_few))
+
   pub rows_few : L.inputs * L.outputs ≤ 2048
   rows_few =
       mul-le-mul {n₂ = 256} {m₂ = 8} (omega (arith, z.byte))

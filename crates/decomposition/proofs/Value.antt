@@ -1,17 +1,17 @@
 -- Values of polynomials as products of a row and a column.
 use mathlib.Core.List.{List, ◌∷◌, ◌++◌, map, []}
 use mathlib.Core.Path.{◌≡◌, refl, sym, ap, ap₂, ◌∙◌}
-use Prim.Native.Nat.{ℕ, zero, suc, ◌+◌, ◌*◌, ◌<◌, ◌≤◌}
+use Prim.Native.Nat.{ℕ, zero, suc, ◌+◌, ◌*◌, ◌<◌}
 use native.Mathlib.Nat.{add-zero, zero-add}
 use native.Mathlib.Omega.{arith}
-use lib.ListN.{length, get_or, drop, take, length-drop}
-use lib.Seq.{get_or-take, get_or-drop, length-take-le}
-use Rattle.std.specs.List.{fold, range_with_len, zip}
+use lib.ListN.{length, get_or, drop, take}
+use lib.Seq.{get_or-take, get_or-drop}
+use Rattle.std.specs.List.{fold, range_with_len}
 use Rattle.std.proofs.lemmas.List.Sums.{fold_push}
 use Rattle.std.specs.Prelude.{bit_xor}
 use Rattle.xor.specs.Sum.{sum_of}
 use Rattle.xor.specs.Xor.{◌⊕◌}
-use Rattle.xor.proofs.Xor.{⊕-is, ⊕-assoc, ⊕-zero, zero_⊕}
+use Rattle.xor.proofs.Xor.{⊕-is}
 use Rattle.field.specs.Mul.{mul}
 use Rattle.field.specs.Polynomial.{exponents, combination, value}
 use Rattle.field.specs.Power.{pow, Field}
@@ -44,16 +44,6 @@ combination_dot {n} f (c ∷ cs) (x ∷ xs) =
     ap ((scalars n).add ((scalars n).mul c x)) (combination_dot f cs xs)
     ∙ sym (dot_cons (scalar_laws f) (length xs) (λ j. get_or (c ∷ cs) j 0) (λ j. get_or (x ∷ xs) j 0))
 
--- the sum as one pass makes it, over as many elements as there are coefficients
-pub fold_combination : (n sum : ℕ) (cs xs : List ℕ) → fold (λ s p. bit_xor s (mul n p.0 p.1)) sum (zip cs xs) ≡ sum ⊕ combination n cs (take (length cs) xs)
-unfolding combination
-fold_combination n sum [] xs = sym (⊕-zero sum)
-fold_combination n sum (c ∷ cs) [] = sym (⊕-zero sum)
-fold_combination n sum (c ∷ cs) (x ∷ xs) =
-    fold_combination n (bit_xor sum (mul n c x)) cs xs
-    ∙ ap (λ (y : ℕ). y ⊕ combination n cs (take (length cs) xs)) (⊕-is sum (mul n c x))
-    ∙ ⊕-assoc sum (mul n c x) (combination n cs (take (length cs) xs))
-
 -- the value of a polynomial: its coefficients times the powers of x
 pub value_dot : {L : Layout} → Sizes L → (l : List ℕ) (i x : ℕ)
     → value_of L l i x ≡ dot (scalars L.width) L.exponents (from l (i * L.exponents)) (monomial L.width x)
@@ -67,17 +57,6 @@ value_dot {L} z l i x =
     ∙ dot_agree (scalars n) e
     (record { at = λ j h. get_or-take e (drop (i * e) l) j 0 h ∙ get_or-drop (i * e) l j 0 })
     (record { at = λ j h. get_d_map (pow n x) (exponents n) j (omega (arith, z.listed)) })
-
--- and as one pass over the part where they stand and a row that begins with these powers
-pub value_fold : (L : Layout) (l : List ℕ) (i x : ℕ) (row : List ℕ) (size : ℕ) → size ≡ L.exponents → i * L.exponents + L.exponents ≤ length l
-    → take L.exponents row ≡ map (pow L.width x) (exponents L.width)
-    → fold (λ s p. bit_xor s (mul L.width p.0 p.1)) 0 (zip (take size (drop (i * L.exponents) l)) row) ≡ value_of L l i x
-unfolding value_of value
-value_fold L l i x row size q h e =
-    let cs = polynomial_in L l i in
-    let counted : length cs ≡ L.exponents = length-take-le L.exponents (drop (i * L.exponents) l) (omega (arith, length-drop (i * L.exponents) l)) in
-    ap (λ (k : ℕ). fold (λ s p. bit_xor s (mul L.width p.0 p.1)) 0 (zip (take k (drop (i * L.exponents) l)) row)) q
-    ∙ fold_combination L.width 0 cs row ∙ zero_⊕ _ ∙ ap (combination L.width cs) (ap (λ (k : ℕ). take k row) counted ∙ e)
 
 -- a sum as one pass over the numbers below k makes it
 range_more : (a k : ℕ) → range_with_len a (suc k) ≡ range_with_len a k ++ (a + k) ∷ []
@@ -98,3 +77,22 @@ unfolding monomial
 power_at {L} z x row e j h =
     sym (get_or-take L.exponents row j 0 h) ∙ ap (λ (l : List ℕ). get_or l j 0) e
     ∙ get_d_map (pow L.width x) (exponents L.width) j (omega (arith, z.listed))
+
+-- the value again, as the sum of the coefficients times such a row
+sum_dot : (n k : ℕ) (r d : ℕ → ℕ) → sum_of k (λ j. mul n (r j) (d j)) ≡ dot (scalars n) k r d
+unfolding sum_of dot
+sum_dot n zero r d = refl
+sum_dot n (suc k) r d = ap (λ (s : ℕ). s ⊕ mul n (r k) (d k)) (sum_dot n k r d)
+
+-- and as one pass over the places of the part where they stand makes it
+pub value_fold : {L : Layout} → Sizes L → (l : List ℕ) (i x : ℕ) (row : List ℕ) (size : ℕ) → size ≡ L.exponents
+    → take L.exponents row ≡ map (pow L.width x) (exponents L.width)
+    → fold (λ s j. bit_xor s (mul L.width (get_or (take size (drop (i * L.exponents) l)) j 0) (get_or row j 0))) 0 (range_with_len 0 L.exponents) ≡ value_of L l i x
+value_fold {L} z l i x row size q e =
+    let coefficient : ℕ → ℕ = λ j. get_or (take size (drop (i * L.exponents) l)) j 0 in
+    let power : ℕ → ℕ = λ j. get_or row j 0 in
+    fold_sum (λ j. mul L.width (coefficient j) (power j)) L.exponents ∙ sum_dot L.width L.exponents coefficient power
+    ∙ dot_agree (scalars L.width) L.exponents
+    (record { at = λ j h. get_or-take size (drop (i * L.exponents) l) j 0 (rw q h) ∙ get_or-drop (i * L.exponents) l j 0 })
+    (record { at = λ j h. power_at z x row e j h })
+    ∙ sym (value_dot z l i x)

@@ -19,6 +19,10 @@ use Rattle.decomposition.proofs.Columns.{equation_small}
 
 -- ---- the equations
 
+-- no row is there yet
+pub rows_none : (L : Layout) (table basis l : List ℕ) → Rows L table basis 0 l
+rows_none L table basis l = record { row = λ y h. absurd (omega arith) }
+
 -- one row more
 pub rows_more : {L : Layout} {x : ℕ} {table basis l l' : List ℕ} → Rows L table basis x l
     → Overwritten l l' (x * (L.unknowns + 1)) (L.unknowns + 1) (system L table basis x) → Rows L table basis (x + 1) l'

@@ -8,6 +8,7 @@ ghost use Rattle.decomposition.specs.Fit.{fit_lengths, fit_tests, fit_end, house
 use crate::decomposing::decompose;
 use crate::layouts::{HEAD, Layout};
 use crate::problems::Problem;
+use linear::rows::copy_row;
 use refusal::{Refusal, refuse_large, refuse_unless};
 
 // The house basis of width 4: q1 = x + x² + x^12.
@@ -19,7 +20,7 @@ fn write_head(width: u32, outputs: u32, basis: &[u8], out: &mut [u8])
     ensures { out.new ≡ headed width outputs basis.now (drop (7 + length basis.now) out.old) }
 {
     out[..HEAD].copy_from_slice(&[b'D', b'C', b'P', 0, 2, width as u8, outputs as u8]);
-    out[HEAD..HEAD + basis.len()].copy_from_slice(basis);
+    copy_row(basis, &mut out[HEAD..HEAD + basis.len()]);
 }
 
 // Finds the decomposition.

@@ -3,9 +3,9 @@ ghost use Rattle.std.specs.Prelude.{◌≡◌, IfOk, []};
 ghost use Rattle.refusal.specs.Outcome.{done, test};
 ghost use Rattle.refusal.specs.Refusals.{report};
 ghost use Rattle.decomposition.specs.Layout as spec;
-ghost use Rattle.decomposition.specs.Layout.{known, paired};
+ghost use Rattle.decomposition.specs.Layout.{known, paired, Pair};
 
-use refusal::Refusal;
+use refusal::{Refusal, refuse_unless};
 
 // The bytes of the head of a record of version 2: the mark, the version, the width and the output bits.
 pub const HEAD: usize = 7;
@@ -17,7 +17,7 @@ pub const SHORT_HEAD: usize = 6;
 pub const ROW: usize = 43;
 
 // How the coefficients of a record and the work of Fit lie in bytes. A constant calls no function, so the sizes that follow from others are written out;
-// `Layout::of` shows that they are those of the definition. That they fit together (`Sizes`) is no ghost field: the definition `layout` gives a
+// `layout_of` shows that they are those of the definition. That they fit together (`Sizes`) is no ghost field: the definition `layout` gives a
 // `Layout` to any two numbers, and one of this type could not be made where they are no pair.
 #[derive(Clone, Copy)]
 pub struct Layout {
@@ -90,18 +90,14 @@ impl Layout {
         work: 11008,
     };
 
-    // The layout for a width and its output bits.
+    // The layout for a width and its output bits, where they are a pair.
     pub fn of(width: u32, outputs: u32) -> Result<Layout, Refusal>
         ensures outcome { report (λ _. []) result ≡ test (known width) 1 0 (test (paired width outputs) 9 0 (done [])) }
         ensures layout { IfOk result (λ L. L ≡ spec.layout width outputs) }
     {
-        match (width, outputs) {
-            (4, 4) => Ok(Layout::FOUR),
-            (6, 6) => Ok(Layout::SIX),
-            (6, 4) => Ok(Layout::SIX_TO_FOUR),
-            (4 | 6, _) => Err(Refusal::OutputBits),
-            _ => Err(Refusal::Width),
-        }
+        refuse_unless(known(width), Refusal::Width)?;
+        refuse_unless(paired(width, outputs), Refusal::OutputBits)?;
+        Ok(layout_of(width, outputs))
     }
 }
 
@@ -110,4 +106,23 @@ pub fn known(width: u32) -> bool
     ensures { result ≡ spec.known width }
 {
     width == 4 || width == 6
+}
+
+// Whether so many output bits pair with the width.
+pub fn paired(width: u32, outputs: u32) -> bool
+    ensures { result ≡ spec.paired width outputs }
+{
+    outputs == width || (width == 6 && outputs == 4)
+}
+
+// The layout of a pair.
+pub fn layout_of(width: u32, outputs: u32) -> Layout
+    requires { Pair width outputs }
+    ensures { result ≡ spec.layout width outputs }
+{
+    match (width, outputs) {
+        (4, _) => Layout::FOUR,
+        (_, 6) => Layout::SIX,
+        _ => Layout::SIX_TO_FOUR,
+    }
 }

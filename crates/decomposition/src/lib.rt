@@ -15,5 +15,5 @@ pub mod records;
 pub use checking::check;
 pub use fitting::{fit, house_fit};
 pub use layouts::Layout;
-pub use reading::read;
+pub use reading::{head_of, outputs_of, read};
 pub use records::Record;

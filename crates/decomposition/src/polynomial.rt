@@ -21,7 +21,8 @@ pub struct Powers {
 }
 
 impl Powers {
-    // The powers of x.
+    // The powers of x. Inlined, so that where values are summed the compiler still knows what it knew of the layout.
+    #[inline(always)]
     pub fn of(layout: Layout, x: u8) -> Powers
         requires sizes { ∥ Sizes layout ∥₁ }
         requires input { x < layout.inputs }
@@ -32,18 +33,20 @@ impl Powers {
         Powers { layout, x, row }
     }
 
-    // The value of polynomial number i, where the polynomials lie one after the other.
+    // The value of polynomial number i, where the polynomials lie one after the other. The sum goes over places, which are counted: over two lists at once, of
+    // which either may end first, the compiler would add byte by byte.
     pub fn value(&self, coefficients: &[u8], i: usize) -> u8
         requires { i * self.now.layout.exponents + self.now.layout.exponents ≤ length coefficients.now }
         ensures { result ≡ value_of self.now.layout coefficients.now i self.now.x }
     {
         let width = self.layout.width;
-        let first = i * self.layout.exponents;
-        let polynomial = &coefficients[first..first + self.layout.exponents];
-        polynomial
-            .iter()
-            .zip(&self.row)
-            .fold(0, |sum, (c, power)| sum ^ field::mul(width, *c, *power))
+        let count = self.layout.exponents;
+        let first = i * count;
+        let polynomial = &coefficients[first..first + count];
+        (0..count).fold(
+            0,
+            |sum, j| sum ^ field::mul(width, polynomial[j], self.row[j]),
+        )
     }
 }
 
@@ -61,6 +64,7 @@ fn next_power(width: u32, x: u8, e: u8, power: u8, next: u8) -> u8
 }
 
 // Writes the powers of x, one for each listed exponent, each made of the one before.
+#[inline(always)]
 fn write_powers(width: u32, x: u8, out: &mut [u8])
     requires narrow { Narrow width }
     requires x_bound { (x < 2 ^ width) × (length out.old ≡ length (exponents width)) }

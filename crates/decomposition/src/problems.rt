@@ -21,7 +21,8 @@ pub struct Problem<'a> {
 }
 
 impl<'a> Problem<'a> {
-    // The problem at input x.
+    // The problem at input x. Inlined: else it is handed back by memory, and Fit, which calls it twice, holds two of it.
+    #[inline(always)]
     pub fn at(&self, x: u8) -> Input<'a>
         requires { x < self.now.layout.inputs }
         ensures { (result.problem ≡ self.now) × (result.powers.x ≡ x) }

@@ -1,12 +1,12 @@
 // The operation Read.
-ghost use Rattle.std.specs.Prelude.{◌≡◌, ◌≤◌};
+ghost use Rattle.std.specs.Prelude.{◌≡◌, ◌≤◌, length};
 ghost use Rattle.refusal.specs.Refusals.{report};
-ghost use Rattle.decomposition.specs.Layout.{Known, Sizes, layout};
+ghost use Rattle.decomposition.specs.Layout.{Known, Pair, Sizes, head, layout};
 ghost use Rattle.decomposition.specs.Reading.{width_in, HandsBack};
 ghost use Rattle.decomposition.specs.Record as spec;
-ghost use Rattle.decomposition.specs.Record.{layout_of, coefficients_of, coefficients_tests, pair_tests, read_outcome};
+ghost use Rattle.decomposition.specs.Record.{version_of, width_of, layout_of, coefficients_of, coefficients_tests, pair_tests, read_outcome};
 
-use crate::layouts::{HEAD, Layout, SHORT_HEAD, known};
+use crate::layouts::{HEAD, Layout, SHORT_HEAD, known, layout_of};
 use crate::records::Record;
 use refusal::{Refusal, refuse_large, refuse_unless};
 
@@ -70,4 +70,35 @@ pub fn read(bytes: &[u8]) -> Result<Record<'_>, Refusal>
         _ => (*width, SHORT_HEAD, rest),
     };
     read_pair(*width, outputs, head, coefficients)
+}
+
+// ---- what a head says, whether Read accepts the record or not
+
+// The bytes of the record's head.
+pub fn head_of(bytes: &[u8]) -> usize
+    requires { 6 ≤ length bytes.now }
+    ensures { result ≡ head (version_of bytes.now) }
+{
+    if bytes[4] == 2 { HEAD } else { SHORT_HEAD }
+}
+
+// The output bits that the record names.
+pub fn outputs_of(bytes: &[u8]) -> u32
+    requires { (6 ≤ length bytes.now) × (head (version_of bytes.now) ≤ length bytes.now) }
+    ensures { result ≡ spec.outputs_of bytes.now }
+{
+    if bytes[4] == 2 {
+        bytes[6] as u32
+    } else {
+        bytes[5] as u32
+    }
+}
+
+// How the record lies in bytes.
+pub fn layout_in(bytes: &[u8]) -> Layout
+    requires in_bounds { (6 ≤ length bytes.now) × (head (version_of bytes.now) ≤ length bytes.now) }
+    requires pair { Pair (width_of bytes.now) (spec.outputs_of bytes.now) }
+    ensures { result ≡ layout_of bytes.now }
+{
+    layout_of(bytes[5] as u32, outputs_of(bytes))
 }

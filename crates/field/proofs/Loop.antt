@@ -1,5 +1,6 @@
 -- AFTER EACH BIT the sum of the product's loop is the first factor times the bits read so far: at every width, for
--- every number of bits. The loop of `Field::multiply` starts by `no_bits`, turns by `next_bit` and ends by `all_bits`.
+-- every number of bits. The loops of `Field::multiply` and `Field::multiply_public` start by `no_bits`, turn by `next_bit_higher` and `next_bit` and
+-- end by `all_bits`.
 use mathlib.Core.Logic.{◌⊎◌, inl, inr}
 use mathlib.Core.Path.{◌≡◌, refl, sym, ap, ap₂, ◌∙◌}
 use Prim.Native.Nat.{ℕ, ◌+◌, ◌*◌, ◌/◌, ◌%◌, ◌^◌, ◌<◌}

@@ -1,5 +1,6 @@
 -- The product's loop, as FIPS 197 tells a product (4.2, 4.2.1): the first factor is doubled again and again, and
--- added where a bit of the second is set, lowest bit first. The loop of `Field::multiply` has this as its invariant.
+-- added where a bit of the second is set, lowest bit first. The loop of `Field::multiply_public` has this as its invariant, and that of
+-- `Field::multiply`, whose bits lie one place higher, has it of half the sum and half of what is left.
 use Rattle.std.specs.Prelude.{◌≡◌, ℕ, zero, suc, ◌/◌, ◌%◌, ◌^◌}
 use Rattle.field.specs.Mul.{double, mul}
 

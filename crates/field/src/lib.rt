@@ -11,9 +11,9 @@ ghost use Rattle.field.specs.Polynomial as polynomial;
 ghost use Rattle.field.specs.Polynomial.{exponents};
 
 // The exponents of polynomials of width 4 and of width 6: 0, then the classes of 1, 3 and, at width 6, 11.
-static EXPONENTS_4: [u8; 9] = [0, 1, 2, 4, 8, 3, 6, 12, 9];
+pub static EXPONENTS_4: [u8; 9] = [0, 1, 2, 4, 8, 3, 6, 12, 9];
 
-static EXPONENTS_6: [u8; 19] = [
+pub static EXPONENTS_6: [u8; 19] = [
     0, 1, 2, 4, 8, 16, 32, 3, 6, 12, 24, 48, 33, 11, 22, 44, 25, 50, 37,
 ];
 
@@ -197,13 +197,25 @@ pub fn double(width: u32, a: u8) -> u8
     ensures { result ≡ spec.double width a }
 {
     match width {
+        8 => Gf256::double(a),
         4 => Gf16::double(a),
-        6 => Gf64::double(a),
-        _ => Gf256::double(a),
+        _ => Gf64::double(a),
     }
 }
 
-// The product of a and b, for all bytes.
+// The product of a and b, for all bytes, of elements that may be secret: `Field::multiply` at each width.
+pub fn double_and_add(width: u32, a: u8, b: u8) -> u8
+    requires { Width width }
+    ensures { result ≡ spec.mul width a b }
+{
+    match width {
+        8 => Gf256::multiply(a, b),
+        4 => Gf16::multiply(a, b),
+        _ => Gf64::multiply(a, b),
+    }
+}
+
+// The product of a and b, for all bytes, of public values.
 pub fn mul(width: u32, a: u8, b: u8) -> u8
     requires { Narrow width }
     ensures { result ≡ spec.mul width a b }

@@ -1,8 +1,11 @@
 -- The laws of a key of 80 bits that is held in two parts: its first 64 bits t and its last 16 bits u.
 use mathlib.Core.Path.{◌≡◌}
 use Prim.Native.Nat.{ℕ, ◌+◌, ◌*◌, ◌/◌, ◌%◌, ◌^◌, ◌<◌}
+use native.Mathlib.Nat.{mod-lt, add_assoc}
 use native.Mathlib.Omega.{arith}
+use lib.Arith.{digits_lt}
 use lib.Bits.{bit_xor}
+use lib.Pow.{pow_pos}
 use Rattle.xor.specs.Xor.{◌⊕◌}
 use Rattle.field.proofs.Tests.{same_below}
 use Rattle.steps.specs.Iterate.{turns, iterate}
@@ -43,6 +46,13 @@ rotated_parts t u h =
     let top : t / 2 ^ 19 ≡ a / 2 ^ 16 = omega arith in
     rw (low, high, top) (omega arith)
 
+pub rotated_lt : (t u : ℕ) → t < 2 ^ 64 → u < 2 ^ 16 → t % 8 * 2 ^ 61 + u * 2 ^ 45 + t / 2 ^ 19 < 2 ^ 64
+rotated_lt t u ht hu =
+    let first : t % 8 < 8 = omega arith in
+    let last : t / 2 ^ 19 < 2 ^ 45 = omega arith in
+    let both : u * 2 ^ 45 + t / 2 ^ 19 < 2 ^ 16 * 2 ^ 45 = digits_lt hu last in
+    omega arith
+
 -- the rotation back
 pub unrotated_parts : (t u : ℕ) → u < 2 ^ 16
     → unrotate size80 (t * 2 ^ 16 + u) ≡ (t % 2 ^ 45 * 2 ^ 19 + u * 8 + t / 2 ^ 61) * 2 ^ 16 + t / 2 ^ 45 % 2 ^ 16
@@ -53,3 +63,8 @@ unrotated_parts t u h =
     let high : (t * 2 ^ 16 + u) / 2 ^ 61 ≡ a = omega arith in
     let top : t / 2 ^ 61 ≡ a / 2 ^ 16 = omega arith in
     rw (low, high, top) (omega arith)
+
+pub unrotated_lt : (t u : ℕ) → t < 2 ^ 64 → u < 2 ^ 16 → t % 2 ^ 45 * 2 ^ 19 + u * 8 + t / 2 ^ 61 < 2 ^ 64
+unrotated_lt t u ht hu =
+    let last : t / 2 ^ 61 < 8 = omega arith in
+    rw (add_assoc (t % 2 ^ 45 * 2 ^ 19) (u * 8) (t / 2 ^ 61)) (digits_lt (mod-lt t (pow_pos 45)) (digits_lt hu last))

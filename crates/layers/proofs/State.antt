@@ -83,6 +83,12 @@ pub share_lent : (w i : ℕ) {a n : ℕ} (l : List ℕ) → a ≡ w * i → n �
 unfolding share_at
 share_lent w i l ea en h = rw ea (bytes_lent (w * i) w l en h)
 
+-- ---- a share is changed
+
+pub changed_then : {w i x y : ℕ} {l m n : List ℕ} → Changed w i x l m → Changed w i y m n → Changed w i y l n
+changed_then h k =
+    record { here = k.here; earlier = λ j f. k.earlier j f ∙ h.earlier j f; later = λ j f. k.later j f ∙ h.later j f }
+
 -- ---- one byte is changed
 
 -- byte v of share i, of w bytes

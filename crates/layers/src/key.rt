@@ -39,7 +39,7 @@ impl Key {
     // The key that lies in ten bytes.
     pub fn load(bytes: &[u8]) -> Key
         requires { length bytes.now ≡ 10 }
-        ensures { held result ≡ from_bytes bytes.now }
+        ensures { held present.size80 result ≡ from_bytes bytes.now }
     {
         let (high, low) = bytes.split_at(8);
         Key {
@@ -51,7 +51,7 @@ impl Key {
     // Writes the key to ten bytes.
     pub fn store(self, bytes: &mut [u8])
         requires { length bytes.old ≡ 10 }
-        ensures { from_bytes bytes.new ≡ held self }
+        ensures { from_bytes bytes.new ≡ held present.size80 self }
     {
         let (high, low) = bytes.split_at_mut(8);
         write_u64(high, self.high);
@@ -61,7 +61,7 @@ impl Key {
     // The key rotated left by 61.
     #[tactic(auto, using(crate::proofs::KeyParts::rotated_parts))]
     pub fn rotate(self) -> Key
-        ensures { held result ≡ present.rotate present.size80 (held self) }
+        ensures { held present.size80 result ≡ present.rotate present.size80 (held present.size80 self) }
     {
         let t = self.high;
         let u = u64::from(self.low);
@@ -74,7 +74,7 @@ impl Key {
     // The key rotated right by 61.
     #[tactic(auto, using(crate::proofs::KeyParts::unrotated_parts))]
     pub fn unrotate(self) -> Key
-        ensures { held result ≡ decryption.unrotate present.size80 (held self) }
+        ensures { held present.size80 result ≡ decryption.unrotate present.size80 (held present.size80 self) }
     {
         let t = self.high;
         let u = u64::from(self.low);
@@ -87,7 +87,7 @@ impl Key {
     // The key with its top nibble put through the S-box.
     #[tactic(auto, using(crate::proofs::KeyParts::top_of))]
     fn substitute_top(self) -> Key
-        ensures { held result ≡ present.on_top_nibbles present.substitute present.size80 (held self) }
+        ensures { held present.size80 result ≡ present.on_top_nibbles present.substitute present.size80 (held present.size80 self) }
     {
         let t = self.high;
         let v = substitute(t / 0x1000000000000000);
@@ -100,7 +100,7 @@ impl Key {
     // The key with the number of round r added at bits 19 to 15.
     #[tactic(auto, using(crate::proofs::KeyParts::number_of))]
     pub fn add_number(self, r: Round) -> Key
-        ensures { held result ≡ held self ⊕ present.round_number present.size80 r.number }
+        ensures { held present.size80 result ≡ held present.size80 self ⊕ present.round_number present.size80 r.number }
     {
         Key {
             high: self.high ^ u64::from(r.number / 2),
@@ -111,7 +111,7 @@ impl Key {
     // The key after round r.
     #[tactic(auto, unfolding(present::specs::Present::update_key))]
     pub fn update(self, r: Round) -> Key
-        ensures { held result ≡ present.update_key present.size80 r.number (held self) }
+        ensures { held present.size80 result ≡ present.update_key present.size80 r.number (held present.size80 self) }
     {
         self.rotate().substitute_top().add_number(r)
     }

@@ -2,7 +2,7 @@
 use mathlib.Core.List.{List, ◌++◌}
 use mathlib.Core.Path.{◌≡◌, refl, sym, ap, ap₂, ◌∙◌}
 use mathlib.Core.Logic.{◌⊎◌, inl, inr}
-use Prim.Native.Nat.{ℕ, ◌+◌, ◌-◌, ◌*◌, ◌/◌, ◌%◌, ◌^◌, ◌≤◌, ◌<◌}
+use Prim.Native.Nat.{ℕ, suc, ◌+◌, ◌-◌, ◌*◌, ◌/◌, ◌%◌, ◌^◌, ◌≤◌, ◌<◌}
 use native.Mathlib.Decide.{ℕ_discrete, dec_lt}
 use native.Mathlib.Nat.{mod-lt, mod-eq_of_lt, zero-mul, one-mul, mul_assoc, mul-add-div_right, mul-add-mod_self_right, div-add-mod', lt_of_lt_of_le}
 use native.Mathlib.Omega.{arith}
@@ -18,9 +18,11 @@ use Rattle.linear.specs.Bits.{bit, bits}
 pub use Rattle.linear.specs.Laws.{cell_elements, zero_bits, zeros_at}
 use Rattle.linear.specs.Packed.{Added, bit_cell, bits_of, sum_bytes}
 use Rattle.linear.specs.Buffer.{bytes, cell, Overwritten, Written}
+use Rattle.linear.specs.Elimination.{Cleared, Eliminated, Pivot, RowAdded}
 use Rattle.linear.specs.Row.{Agree, plus, times}
-use Rattle.linear.proofs.Bits.{bit_lt, bit_sum, bit_zero, bit_here, bit_elsewhere}
-use Rattle.linear.proofs.Buffer.{overwritten_next, overwritten_none, part_written, row_room}
+use Rattle.linear.proofs.Bits.{bit_lt, bit_sum, bit_zero, bit_here, bit_elsewhere, bit_laws}
+use Rattle.linear.proofs.Buffer.{overwritten_next, overwritten_none, overwritten_values, part_written, row_room}
+use Rattle.linear.proofs.Steps.{step_cleared, step_pivot_added}
 
 -- ---- one byte
 
@@ -148,9 +150,13 @@ more_added l₀ l m {f} k e u w = record {
   high = λ j h. w.high j (omega arith) ∙ u.high j (omega arith);
 }
 
+-- the sum of the bits of l from byte a on and those of a row from byte b on
+abbrev pub sum_bits : List ℕ → List ℕ → ℕ → ℕ → ℕ → ℕ
+sum_bits l row a b = plus bits (λ k. bits_of 8 l (a * 8 + k)) (λ k. bits_of 8 row (b * 8 + k))
+
 -- bytes that are added, from byte b on to those from byte a on, are bits that are added
 pub bytes_added : (l₀ l row : List ℕ) (a b k : ℕ) → Overwritten l₀ l a k (λ j. bytes l₀ (a + j) ⊕ bytes row (b + j))
-    → Written (bits_of 8 l₀) (bits_of 8 l) (a * 8) (k * 8) (plus bits (λ c. bits_of 8 l₀ (a * 8 + c)) (λ c. bits_of 8 row (b * 8 + c)))
+    → Written (bits_of 8 l₀) (bits_of 8 l) (a * 8) (k * 8) (sum_bits l₀ row a b)
 bytes_added l₀ l row a b k u = record {
   new = λ c h.
       bits_from 8 (omega arith) a c l ∙ ap (bit (c % 8)) (u.new (c / 8) (omega arith)) ∙ bit_sum (c % 8) (bytes l₀ (a + c / 8)) (bytes row (b + c / 8))
@@ -169,6 +175,15 @@ row_bit s l i k = ap (λ (x : ℕ). bits_of 8 l (x + k)) (mul_assoc i s 8)
 pub row_added : (s : ℕ) (l₀ l row : List ℕ) (i b : ℕ) → Overwritten l₀ l (i * s) s (λ j. bytes l₀ (i * s + j) ⊕ bytes row (b + j))
     → Written (bits_of 8 l₀) (bits_of 8 l) (i * (s * 8)) (s * 8) (plus bits (bit_cell s l₀ i) (λ k. bits_of 8 row (b * 8 + k)))
 row_added s l₀ l row i b u = rw (mul_assoc i s 8) at (bytes_added l₀ l row (i * s) b s u)
+
+-- a copy of row i, from byte b on
+pub copied_bits : {f₀ : ℕ → ℕ} (s : ℕ) (l row : List ℕ) (i b : ℕ) → Written f₀ (bytes row) b s (cell s l i)
+    → Agree (s * 8) (λ k. bits_of 8 row (b * 8 + k)) (times bits 1 (bit_cell s l i))
+copied_bits s l row i b u = record {
+  at = λ k h.
+      bits_from 8 (omega arith) b k row ∙ ap (bit (k % 8)) (u.new (k / 8) (omega arith)) ∙ sym (bits_from 8 (omega arith) (i * s) k l) ∙ row_bit s l i k
+      ∙ sym (one-mul (bit_cell s l i k));
+}
 
 -- s bytes of zeros at the start of a buffer, and from byte 64 on a copy of row i: 0 and 1 times the row
 module _ (s : ℕ) (old zeros p l : List ℕ) (i : ℕ) (h : s ≤ 64) (room : 256 ≤ length old) (z : zeros ≡ replicate s 0) (n : length p ≡ s)
@@ -208,6 +223,13 @@ module _ (s : ℕ) (old zeros p l : List ℕ) (i : ℕ) (h : s ≤ 64) (room : 2
             ∙ sym (bits_from 8 (omega arith) (i * s) k l) ∙ row_bit s l i k ∙ sym (one-mul (bit_cell s l i k)));
       }
 
+-- row i takes up a multiple of row p
+pub added_multiple : {f : ℕ → ℕ} (l₀ row l₁ : List ℕ) (s i p b x : ℕ) → Agree (s * 8) (λ k. bits_of 8 row (b * 8 + k)) (times bits x (bit_cell s l₁ p))
+    → Written (bits_of 8 l₀) f (i * s * 8) (s * 8) (sum_bits l₀ row (i * s) b)
+    → Written (bits_of 8 l₀) f (i * (s * 8)) (s * 8) (plus bits (bit_cell s l₀ i) (times bits x (bit_cell s l₁ p)))
+added_multiple l₀ row l₁ s i p b x a u =
+    rw (mul_assoc i s 8) at (overwritten_values u (λ k h. ap₂ ◌⊕◌ (row_bit s l₀ i k) (a.at k h)))
+
 -- bit k of row i is within the buffer
 pub bit_room : (s : ℕ) {i m L k : ℕ} → i < m → k < s * 8 → m * s ≤ L → i * s + k / 8 < L
 bit_room s h g r = omega (arith, row_room s h r)
@@ -216,3 +238,21 @@ bit_room s h g r = omega (arith, row_room s h r)
 
 pub zero_small : (n k : ℕ) {l : List ℕ} → l ≡ replicate k 0 → Small n l
 zero_small n k {l} e j = let z : get_or l j 0 ≡ 0 = ap (λ (t : List ℕ). get_or t j 0) e ∙ zeros_at k j in rw z (pow_pos n)
+
+-- ---- one column
+
+-- when the pivot's row is added to row r, its bit in column c is not 0 and so is 1: the rows are cleared with no scaling
+module _ (m w c r p : ℕ) (M₀ M : ℕ → ℕ → ℕ) (cw : c < w) (h : Eliminated bits m w M₀ M c r) (pv : Pivot m c r p M)
+    (N : ℕ → ℕ → ℕ) (a : RowAdded bits m w 1 r p M N) where
+  rm : r < m
+  rm = omega (arith, pv.after, pv.within)
+
+  x : Eliminated bits m w M₀ N c r × (N r c ≡ 0 → ⊥)
+  x = step_pivot_added bit_laws m w c r p M₀ M cw h pv N a
+
+  pub bit_step : (O : ℕ → ℕ → ℕ) → Cleared bits m w c r m N O → Eliminated bits m w M₀ O (suc c) (suc r)
+  bit_step O cl = step_cleared bit_laws m w c r M₀ N O cw rm x.0 (one (bit_cases (N r c) ((x.0.elements.at r rm).at c cw))) cl
+    where
+      one : (N r c ≡ 0) ⊎ (N r c ≡ 1) → N r c ≡ 1
+      one (inl e) = absurd (x.1 e)
+      one (inr e) = e

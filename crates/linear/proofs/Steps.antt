@@ -10,13 +10,26 @@ use Rattle.linear.specs.Elimination.{Eliminated, Cleared, Pivot, RowAdded, Zeros
 use Rattle.linear.specs.Scalars.{Scalars, ScalarLaws}
 use Rattle.linear.specs.System.{Elements}
 use Rattle.linear.proofs.Elimination.{eliminated_added, eliminated_scaled}
-use Rattle.linear.proofs.Reduced.{equivalent_refl, reduced_start, reduced_skip, reduced_grow}
+use Rattle.linear.proofs.Reduced.{equivalent_trans, equivalent_refl, reduced_start, reduced_skip, reduced_grow}
 use Rattle.linear.proofs.Row.{zero_below, zero_mul, zero_add, one_mul}
 use Rattle.linear.proofs.RowOperations.{MultiplesAdded, Scaled}
+
+-- no row is cleared yet
+pub cleared_none : (S : Scalars) (m w c r : ℕ) (M : ℕ → ℕ → ℕ) → Cleared S m w c r 0 M M
+cleared_none S m w c r M =
+    record { kept = record { at = λ j l. refl }; cleared = λ i l. absurd (omega arith); rest = λ i g l. record { at = λ j b. refl } }
 
 -- nothing is done at the start
 pub eliminated_start : {S : Scalars} {m w : ℕ} (M : ℕ → ℕ → ℕ) → Elements S m w M → Eliminated S m w M M 0 0
 eliminated_start {S} {m} {w} M el = record { elements = el; equivalent = equivalent_refl S m w M; reduced = reduced_start m M }
+
+-- a matrix that is reduced so far is on its own way
+pub eliminated_self : {S : Scalars} {m w c r : ℕ} {M N : ℕ → ℕ → ℕ} → Eliminated S m w M N c r → Eliminated S m w N N c r
+eliminated_self {S} {m} {w} {c} {r} {M} {N} h = record { elements = h.elements; equivalent = equivalent_refl S m w N; reduced = h.reduced }
+
+pub eliminated_trans : {S : Scalars} {m w c r c' r' : ℕ} {M N O : ℕ → ℕ → ℕ} → Eliminated S m w M N c r → Eliminated S m w N O c' r'
+    → Eliminated S m w M O c' r'
+eliminated_trans h g = record { elements = g.elements; equivalent = equivalent_trans h.equivalent g.equivalent; reduced = g.reduced }
 
 -- what a search down column c finds
 pub pivot_found : (m c r : ℕ) (M : ℕ → ℕ → ℕ) (p : Option ℕ)

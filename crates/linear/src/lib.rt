@@ -8,7 +8,7 @@ mod eliminating;
 pub mod matrix;
 pub mod packing;
 mod reading_off;
-mod rows;
+pub mod rows;
 pub mod solving;
 
 pub use bit_matrix::BitMatrix;

@@ -16,6 +16,16 @@ pub fn add_multiple(width: u32, row: &mut [u8], other: &[u8], factor: u8)
     }
 }
 
+// Copies a row. By index: the library's copy may be a call of C's `memmove`, which the archive would need from outside.
+pub fn copy_row(other: &[u8], row: &mut [u8])
+    requires { length row.old ≡ length other.now }
+    ensures { row.new ≡ other.now }
+{
+    for (i, x) in other.iter().enumerate() {
+        row[i] = *x;
+    }
+}
+
 // Multiplies a row.
 pub fn scale(width: u32, row: &mut [u8], factor: u8)
     requires { Narrow width }

@@ -4,3 +4,4 @@ pub mod Counts
 pub mod Coupling
 pub mod Runs
 pub mod ByShare
+pub mod Places

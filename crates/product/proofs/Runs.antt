@@ -7,9 +7,10 @@ use lib.Bits.{bit_xor}
 use lib.ListN.{length, set}
 use Rattle.xor.specs.Xor.{◌⊕◌}
 use Rattle.field.specs.Mul.{mul}
-use Rattle.steps.specs.Program.{◌>>=◌, ◌>>◌, note, random}
+use Rattle.steps.specs.Program.{◌>>=◌, ◌>>◌, note, for, random}
 use Rattle.steps.specs.Sharing.{share}
 use Rattle.steps.specs.Machine.{State, next_of, drawn, recorded, recorded_all, exec, Ready, Went}
+use Rattle.steps.proofs.StepsAlone.{StepsAlone, alone_return, alone_bind, alone_note, alone_for}
 use Rattle.product.specs.Product.{pair, start}
 
 -- the seven steps of a pair, where r is the element that is drawn, and x and z the two products
@@ -46,3 +47,8 @@ pub start_room : (w : ℕ) (a b : List ℕ) (i : ℕ) (c : List ℕ) {s : State}
 unfolding exec start ◌>>=◌ note
 start_room w a b i c y =
     record { draws_fit = omega (arith, y.draws_fit); steps_fit = y.steps_fit; enough = omega (arith, y.enough); places = y.places }
+
+-- the starts take steps alone
+pub starts_alone : (w s : ℕ) (a b c : List ℕ) → StepsAlone (for 0 s (start w a b) c)
+unfolding start
+starts_alone w s a b c = alone_for 0 s (λ i d. alone_bind (alone_note _ _) (λ v. alone_return)) c

@@ -3,7 +3,7 @@
 
 mod making;
 
-ghost use Rattle.std.specs.Prelude.{◌≡◌, ◌+◌, ◌<◌};
+ghost use Rattle.std.specs.Prelude.{◌≡◌, ◌+◌, ◌<◌, ◌≤◌, length};
 ghost use Rattle.steps.specs.Program.{for};
 ghost use Rattle.steps.specs.Machine.{Ready, Went};
 ghost use Rattle.product.specs.Product as spec;
@@ -11,8 +11,8 @@ ghost use Rattle.product.specs.ByShare as by_share;
 
 use field::Field;
 pub use making::by_share;
-use steps::ShareCount;
 use steps::machine::Machine;
+use steps::{ShareCount, padded};
 
 // A sharing: share i at place i, 0 past the shares in use.
 pub type Sharing = [u8; 9];
@@ -137,4 +137,18 @@ pub fn product<F: Field, M: Machine>(
     starts::<F, M>(machine, s, a, b, &mut c);
     rows::<F, M>(machine, s, a, b, &mut c);
     c
+}
+
+// The masked product of two sharings that lie in longer slices: of each only the first nine bytes count.
+pub fn product_of_slices<F: Field, M: Machine>(
+    machine: &mut M,
+    s: ShareCount,
+    a: &[u8],
+    b: &[u8],
+) -> Sharing
+    requires nine { (9 ≤ length a.now) × (9 ≤ length b.now) }
+    requires ready { Ready (spec.product F.WIDTH s.count a.now b.now) (M.state machine.old) }
+    ensures { Went (spec.product F.WIDTH s.count a.now b.now) (M.state machine.old) result (M.state machine.new) }
+{
+    product::<F, M>(machine, s, &padded(&a[..9]), &padded(&b[..9]))
 }

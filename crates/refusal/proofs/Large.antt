@@ -15,6 +15,41 @@ use lib.ListN.{length, get_or, length-append}
 use Rattle.refusal.specs.Outcome.{Outcome, refused}
 use Rattle.refusal.specs.Large.{first_large, found, LargeAlike, test_below}
 
+-- ---- a search that has come to entry i
+
+-- it ends at an entry that is too large
+pub large_found : (bound : ℕ) (l : List ℕ) (i : ℕ) → i < length l → bound ≤ get_or l i 0 → first_large bound l ≤ i
+unfolding first_large
+large_found bound [] i h g = absurd (omega arith)
+large_found bound (x ∷ l) zero h g = rw (le-ltb x bound g) (omega arith)
+large_found bound (x ∷ l) (suc i) h g = elim (dec_lt x bound) [
+  | yes k ↦ rw (lt-ltb x bound k) (omega (arith, large_found bound l i (omega arith) g))
+  | no k ↦ rw (le-ltb x bound (omega arith)) (omega arith)
+]
+
+-- and goes past one that is not
+pub large_past : (bound : ℕ) (l : List ℕ) (i : ℕ) → i < length l → get_or l i 0 < bound → i ≤ first_large bound l → i < first_large bound l
+unfolding first_large
+large_past bound [] i h g k = absurd (omega arith)
+large_past bound (x ∷ l) zero h g k = rw (lt-ltb x bound g) (omega arith)
+large_past bound (x ∷ l) (suc i) h g k = elim (dec_lt x bound) [
+  | yes j ↦
+      let e : first_large bound (x ∷ l) ≡ suc (first_large bound l) = rw (lt-ltb x bound j) refl in
+      omega (arith, e, large_past bound l i (omega arith) g (omega (arith, e)))
+  | no j ↦ let e : first_large bound (x ∷ l) ≡ 0 = rw (le-ltb x bound (omega arith)) refl in absurd (omega (arith, e))
+]
+
+-- whether all entries before the next are below the bound, by those before i and entry i
+module _ (bound : ℕ) (l : List ℕ) (i : ℕ) (h : i < length l) where
+  pub reached_found : bound ≤ get_or l i 0 → leb (i + 1) (first_large bound l) ≡ false
+  reached_found g = lt-leb (i + 1) (first_large bound l) (omega (arith, large_found bound l i h g))
+
+  pub reached_past : get_or l i 0 < bound → leb (i + 1) (first_large bound l) ≡ leb i (first_large bound l)
+  reached_past g = elim (dec_lt (first_large bound l) i) [
+    | yes k ↦ lt-leb (i + 1) (first_large bound l) (omega arith) ∙ sym (lt-leb i (first_large bound l) k)
+    | no k ↦ le-leb (i + 1) (first_large bound l) (omega (arith, large_past bound l i h g (omega arith))) ∙ sym (le-leb i (first_large bound l) (omega arith))
+  ]
+
 -- ---- no such entry
 
 none_cons : (bound x : ℕ) (l : List ℕ) → suc (length l) ≤ first_large bound (x ∷ l) → (x < bound) × (length l ≤ first_large bound l)

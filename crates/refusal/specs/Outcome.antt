@@ -1,6 +1,6 @@
 -- What an operation answers, in the paper's terms.
--- Each operation has an enum of its own for its answer. A definition beside the operation gives the outcome that each case stands for, and
--- the operation's contract settles that outcome for every argument.
+-- Each operation answers a `Result`, with the error enum `Refusal`. `report` (Refusals) gives the outcome that each answer stands for, and the
+-- operation's contract settles that outcome for every argument.
 use Rattle.std.specs.Prelude.{Bool, true, false, List, ◌≡◌, ℕ}
 
 -- an outcome

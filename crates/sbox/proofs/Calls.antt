@@ -7,36 +7,38 @@ use native.Mathlib.Decide.{dec_lt}
 use native.Mathlib.Omega.{arith}
 use borrow.Author.Tests.{eqb-true, eq-eqb, leb-true}
 use lib.Dec.{leb, eqb}
-use lib.ListN.{length, drop, take, replicate, get_or-append, get_or-eq_default}
+use lib.ListN.{length, length-drop, drop, take, replicate, get_or-append, get_or-eq_default}
 use lib.Seq.{get_or-append-add, get_or-drop, get_or-take, length-take-le}
 use Rattle.steps.proofs.Sharing.{share_zeros}
 use lib.Pow.{pow_pos}
 use Rattle.xor.specs.Sum.{join, Small}
-use Rattle.refusal.specs.Outcome.{done}
+use Rattle.refusal.specs.Outcome.{Outcome, done, and_then}
+use Rattle.refusal.specs.Watch.{list_fits, test_steps}
 use Rattle.refusal.specs.Range.{one_to}
 use Rattle.refusal.specs.Large.{first_large}
 use Rattle.refusal.proofs.Outcome.{passed, then_passed}
 use Rattle.refusal.proofs.Range.{one_to_range}
 use Rattle.refusal.proofs.Large.{all_small, both_small}
-use Rattle.steps.specs.Sharing.{share, Sharing}
+use Rattle.steps.specs.Sharing.{share, Sharing, Filled}
 use Rattle.steps.specs.Fill.{tabulate}
 use Rattle.steps.proofs.Fill.{tabulate_get_or, tabulate_same}
 use Rattle.steps.specs.Tape.{elements, bytes_for}
 use Rattle.steps.specs.declared.counts.Counts.{Counts}
-use Rattle.steps.specs.Machine.{start_of, Ready, Whole}
+use Rattle.steps.specs.Machine.{State, start_of, Ready, Went, Whole}
 use Rattle.steps.specs.Taken.{handed_back}
 use Rattle.steps.specs.Call.{call_counts, Takes}
+use Rattle.steps.specs.Call as call_spec
 use Rattle.steps.proofs.Call as call
 use Rattle.steps.proofs.Tape.{elements_nibbles}
-use Rattle.decomposition.specs.Layout.{layout, Known, Pair}
+use Rattle.decomposition.specs.Layout.{head, layout, Known, Pair}
 use Rattle.decomposition.specs.declared.layouts.Layout.{Layout}
-use Rattle.decomposition.specs.Record.{coefficients_of, layout_of, width_of, outputs_of, read_outcome}
+use Rattle.decomposition.specs.Record.{coefficients_of, layout_of, version_of, width_of, outputs_of, read_outcome, Accepted}
 use Rattle.decomposition.proofs.ReadOutcome.{read_values}
 use Rattle.decomposition.proofs.Sizes.{each_pair, known_both, layout_outputs, layout_width}
 use Rattle.sbox.specs.Form.{basis_in, solution_in}
 use Rattle.sbox.specs.Figures.{sbox_products, sbox_draws, sbox_steps}
 use Rattle.sbox.specs.Sbox.{sbox}
-use Rattle.sbox.specs.Operations.{call_program, sbox_call, sbox_lengths, tested_random, argument_tests, call_tests, sbox_output, SameShares, Callable, OfPair}
+use Rattle.sbox.specs.Operations.{call_program, sbox_call, sbox_lengths, tested_random, argument_tests, call_tests, sbox_output, watch_output, SameShares, Callable, OfPair, watch_outcome}
 use Rattle.sbox.proofs.Places.{sbox_same}
 use Rattle.sbox.proofs.Record.{accepted_record}
 use Rattle.sbox.proofs.Counts.{figures_4_4, figures_6_6, figures_6_4}
@@ -63,6 +65,10 @@ module _ (r : List ℕ) {L : Layout} (l : L ≡ layout_of r) where
   of_pair pair = record { pair = rw (width_is, outputs_is) pair; layout_is = l ∙ sym (ap₂ layout width_is outputs_is) }
 
 -- ---- a call that passes the tests
+
+-- the record has as many coefficients as the code asks
+pub record_room : {n : ℕ} {r : List ℕ} → Accepted n r → (layout n (outputs_of r)).coefficients ≤ length (coefficients_of r)
+record_room {n} {r} a = omega (arith, length-drop (head (version_of r)) r, a.whole)
 
 -- the lengths that a call takes, and that these are all
 pub call_lengths_lem : (n m s shares random : ℕ) (fits : Bool) → sbox_lengths n m s shares random fits ≡ true
@@ -141,7 +147,7 @@ module _ {n s : ℕ} {r shares random : List ℕ} (a : Callable n r s shares ran
 pub call_program_lem : {n s : ℕ} {r shares random : List ℕ} (x : List ℕ) → Callable n r s shares random → SameShares x shares
     → sbox n s (basis_in n (outputs_of r) (coefficients_of r)) (solution_in n (outputs_of r) (coefficients_of r)) x ≡ call_program r s shares
 unfolding call_program
-call_program_lem {n} {s} {r} {shares} x a same = rw a.accepted.named (sbox_same n s x shares same (basis_in n (outputs_of r) (coefficients_of r)) (solution_in n (outputs_of r) (coefficients_of r)))
+call_program_lem {n} {s} {r} {shares} x a same = rw a.accepted.named (sbox_same n s x shares (λ i h. same i) (basis_in n (outputs_of r) (coefficients_of r)) (solution_in n (outputs_of r) (coefficients_of r)))
 
 -- what a call's run hands back and writes
 module _ {n s : ℕ} {r shares random : List ℕ} (a : Callable n r s shares random) where
@@ -159,7 +165,34 @@ module _ {n s : ℕ} {r shares random : List ℕ} (a : Callable n r s shares ran
       let v : Whole (elements (width_of r) random) (call_program r s shares) x c = rw a.accepted.named w in
       ap (λ (y : List ℕ). tabulate s (share y)) (call.call_result_lem (sbox_call r s shares random) v)
 
+  -- what a watch leaves, where each number of the list is that of a step
+  some_steps : 0 < sbox_steps n (outputs_of r) s
+  some_steps =
+      each_pair (λ n m. 0 < sbox_steps n m s) (omega (arith, a.some, figures_4_4 s)) (omega (arith, a.some, figures_6_6 s))
+      (omega (arith, a.some, figures_6_4 s)) n (outputs_of r) a.accepted.pair
+
+  pub call_watched : {list vs x : List ℕ} {t : State} → length list ≡ length vs → length list ≤ first_large (sbox_steps n (outputs_of r) s) list
+      → Went (call_program r s shares) (start_of (elements n random) list vs) x t → t.values ≡ watch_output r s shares random list
+  unfolding watch_output sbox_call
+  call_watched {list} {vs} {x} {t} e below w =
+      let v : Went (call_program r s shares) (start_of (elements (width_of r) random) list vs) x t = rw a.accepted.named w in
+      call.call_watched (sbox_call r s shares random) (call_takes a) some_steps e below v
+
+  -- what a watch answers, once the tests but the last are passed
+  pub watch_tests : (list : List ℕ) (values : ℕ) {v : List ℕ} → call_tests r s shares random (list_fits (length list) values) ≡ done v
+      → watch_outcome r s shares random list values ≡ test_steps (sbox_steps n (outputs_of r) s) list (done (call_counts (sbox_call r s shares random)))
+  unfolding watch_outcome sbox_call call_spec.watch_outcome
+  watch_tests list values e =
+      ap (λ (o : Outcome). and_then o (test_steps (sbox_steps (width_of r) (outputs_of r) s) list (done (call_counts (sbox_call r s shares random))))) e
+      ∙ ap (λ (k : ℕ). test_steps (sbox_steps k (outputs_of r) s) list (done (call_counts (sbox_call r s shares random)))) a.accepted.named
+
 -- ---- shares that are copied
+
+pub nine_same : (l c : List ℕ) (i : ℕ) → length l ≤ i → Filled (share l) i c → i ≤ length l → SameShares c l
+nine_same l c i h f k j = elim (dec_lt j i) [
+  | yes g ↦ f.filled j g
+  | no g ↦ f.past j (omega arith) ∙ sym (get_or-eq_default l 0 (omega arith))
+]
 
 -- the first n shares of a sharing
 pub first_shares : (n : ℕ) (a : List ℕ) → n ≤ length a → take n a ≡ tabulate n (share a)

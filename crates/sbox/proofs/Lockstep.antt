@@ -20,6 +20,7 @@ use Rattle.product.specs.ByShare.{by_share, nth, square, squares, constant}
 use Rattle.sbox.specs.Sbox.{factors, classes_after, powers, term, polynomial, polynomials, form_products, total, sbox}
 use Rattle.sbox.specs.TableSteps.{square_row, multiply_rows, factors_of, power_class, power_rows}
 use Rattle.sbox.specs.TableSteps.{coefficients_at, polynomial_row, product_row, unmade, sbox_rows}
+use Rattle.sbox.proofs.Places.{sbox_same}
 use Rattle.sbox.proofs.Holds.{Holds, holds_next, holds_replace}
 use Rattle.sbox.proofs.TableClasses.{Class}
 
@@ -214,11 +215,16 @@ module _ (n s : ℕ) where
         none : (size : ℕ) → Holds size (unmade size) []
         none size = record { size = length-replicate size (replicate 9 0); rows = λ r b. absurd (omega arith) }
 
-    -- the program of the code is that of the definition
-    pub rows_same : (x : List ℕ) → 0 < n → n ≤ 18 → ((k : ℕ) → k < length (factors n) → Class n k) → n * (1 + length (factors n)) ≡ k
+    -- the program of the code is that of the definition,
+    rows_at : (x : List ℕ) → 0 < n → n ≤ 18 → ((k : ℕ) → k < length (factors n) → Class n k) → n * (1 + length (factors n)) ≡ k
         → sbox_rows n k h s L cs x ≡ sbox n s qs ps x
     unfolding sbox_rows sbox
-    rows_same x some few classes made =
+    rows_at x some few classes made =
         let row : (r : ℕ) → r < 1 → nth (set (unmade 18) 0 x) r ≡ nth (x ∷ []) r = λ r b. let e : r ≡ 0 = omega arith in rw e refl in
         let first : Holds 18 (set (unmade 18) 0 x) (x ∷ []) = record { size = refl; rows = row } in
         lockstep_same (lockstep_bind (lockstep_powers x some few classes first) (λ t ws p. (lockstep_forms t ws (p.1 ∙ made) p.0)))
+
+    -- and of any list y that has the same s shares as x
+    pub rows_same : (x y : List ℕ) → 0 < n → n ≤ 18 → ((k : ℕ) → k < length (factors n) → Class n k) → n * (1 + length (factors n)) ≡ k
+        → ((i : ℕ) → i < s → share x i ≡ share y i) → sbox_rows n k h s L cs x ≡ sbox n s qs ps y
+    rows_same x y some few classes made same = rows_at x some few classes made ∙ sbox_same n s x y same qs ps

@@ -2,21 +2,23 @@
 use mathlib.Core.Path.{◌≡◌, refl}
 use mathlib.Core.List.{List, [], ◌∷◌}
 use Prim.Native.Nat.{ℕ, ◌+◌, ◌-◌, ◌*◌, ◌^◌, ◌≤◌, ◌<◌}
-use native.Mathlib.Nat.{le_refl, suc-mul}
+use native.Mathlib.Nat.{le_refl, suc-mul, mul-le-mul_right}
 use native.Mathlib.Omega.{arith}
 use lib.Bits.{bit_xor}
-use lib.ListN.{length, get_or}
+use lib.ListN.{length, get_or, take, drop, length-drop}
+use lib.Seq.{take_all}
 use Rattle.xor.specs.Xor.{◌⊕◌}
 use Rattle.field.specs.Mul.{mul}
 use Rattle.field.specs.Polynomial.{exponents}
 use Rattle.decomposition.specs.Layout.{Sizes}
 use Rattle.decomposition.specs.declared.layouts.Layout.{Layout}
-use Rattle.steps.specs.Program.{◌>>=◌, note}
+use Rattle.steps.specs.Program.{◌>>=◌, note, for}
 use Rattle.steps.specs.Sharing.{share}
 use Rattle.steps.specs.Machine.{State, recorded, recorded_all, exec, Ready, Went}
-use Rattle.product.specs.ByShare.{nth}
-use Rattle.sbox.specs.Sbox.{term}
-use Rattle.sbox.specs.TableSteps.{add_next, Sized}
+use Rattle.steps.proofs.StepsAlone.{StepsAlone, alone_return, alone_bind, alone_note, alone_for}
+use Rattle.product.specs.ByShare.{by_share, nth, square}
+use Rattle.sbox.specs.Sbox.{term, polynomial, total}
+use Rattle.sbox.specs.TableSteps.{square_row, polynomial_row, add_next, Sized}
 
 -- what so many steps ask of a state
 pub record Room (steps : ℕ) (s : State) : Type 0 where
@@ -45,9 +47,51 @@ pub add_room : (ts : List (List ℕ)) (i j u : ℕ) {s : State} → Ready (add_n
 unfolding exec add_next note
 add_room ts i j u y = record { fit = y.steps_fit; places = y.places }
 
+-- ---- parts that take steps alone
+
+square_alone : (n s : ℕ) (a : List ℕ) → StepsAlone (square n s a)
+unfolding square by_share
+square_alone n s a = alone_for 0 s (λ i c. alone_bind (alone_note _ _) (λ v. alone_return)) _
+
+pub square_rows_alone : (n s a b : ℕ) (t : List (List ℕ)) → StepsAlone (for a b (square_row n s) t)
+unfolding square_row
+square_rows_alone n s a b t = alone_for a b (λ r t. alone_bind (square_alone n s _) (λ c. alone_return)) t
+
+pub polynomials_alone : (n s e : ℕ) (cs : List ℕ) (ws : List (List ℕ)) (count : ℕ) (t : List (List ℕ)) → StepsAlone (for 0 count (polynomial_row n s e cs ws) t)
+unfolding polynomial_row polynomial by_share term
+polynomials_alone n s e cs ws count t =
+    alone_for 0 count
+    (λ j t. alone_bind
+    (alone_for 0 s (λ i c. alone_bind (alone_for 0 _ (λ r u. alone_bind (alone_note _ _) (λ v. alone_note _ _)) _) (λ u. alone_return)) _)
+    (λ c. alone_return)) t
+
+pub totals_alone : (s : ℕ) (ts : List (List ℕ)) (k : ℕ) → StepsAlone (total s ts k)
+unfolding total by_share
+totals_alone s ts k = alone_for 0 s (λ i c. alone_bind (alone_for 0 k (λ j u. alone_note _ _) _) (λ v. alone_return)) _
+
+-- ---- rows of a table that is one list of bytes, nine places each
+
+-- row r: the table from there on, of which the first nine places count
+abbrev pub table_row : List ℕ → ℕ → List ℕ
+table_row t r = drop (9 * r) t
+
+-- a row as a part of the table, lent up to its end
+pub row_part : (t : List ℕ) (r : ℕ) → take (length t - 9 * r) (drop (9 * r) t) ≡ table_row t r
+row_part t r = take_all (length t - 9 * r) (drop (9 * r) t) (omega (arith, length-drop (9 * r) t))
+
+-- it has nine places
+pub row_long : (t : List ℕ) (r : ℕ) → 9 * r + 9 ≤ length t → 9 ≤ length (take (length t - 9 * r) (drop (9 * r) t))
+row_long t r h = rw (row_part t r, length-drop (9 * r) t) (omega arith)
+
+-- ---- sizes
+
 -- a polynomial has a term for each power
 pub as_many_terms : (n : ℕ) {k : ℕ} → length (exponents n) ≡ k + 1 → length (exponents n) - 1 ≡ k
 as_many_terms n e = omega (arith, e)
+
+-- polynomial j of k + 1 coefficients ends within those of q, where j is below q
+pub place_within : (k : ℕ) {j q l : ℕ} → j < q → q * (k + 1) ≤ l → j * (k + 1) + k < l
+place_within k {j} {q} h e = omega (arith, mul-le-mul_right (k + 1) h, suc-mul j (k + 1))
 
 -- the polynomials of the basis lie within it, and those of the p within theirs
 module _ {k h : ℕ} {L : Layout} (z : Sizes L) (e : Sized k h L) where

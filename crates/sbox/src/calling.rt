@@ -33,7 +33,13 @@ impl AcceptedCall<'_> {
         ensures { Went (program_of self.now) (M.state machine.old) result (M.state machine.new) }
     {
         let x = padded(self.shares);
-        run(machine, self.count, self.record, &x)
+        run(
+            machine,
+            self.count,
+            &self.record.layout,
+            self.record.coefficients,
+            &x,
+        )
     }
 
     // A run that nobody watches, with random elements of so many bits. Each recorder is named where its run is made: over a recorder that is left open
@@ -73,14 +79,16 @@ impl AcceptedCall<'_> {
         machine.counts
     }
 
-    // A run that is watched.
+    // A run that is watched. Without numbers nobody watches, and no step asks a recorder.
     pub fn watched(&self, list: &[u32], values: &mut [u8]) -> Counts
         requires places { (length list.now ≤ 64) × (length list.now ≡ length values.old) }
         requires below { length list.now ≤ first_large (steps_of self.now) list.now }
         ensures counts { Whole (tape_of self.now) (program_of self.now) (result_of (program_of self.now) (tape_of self.now)) result }
         ensures values { values.new ≡ watched list.now (trace (program_of self.now) (tape_of self.now)) }
     {
-        if self.record.layout.width == 4 {
+        if list.is_empty() {
+            self.unwatched().1
+        } else if self.record.layout.width == 4 {
             self.watched_at::<4>(list, values)
         } else {
             self.watched_at::<6>(list, values)

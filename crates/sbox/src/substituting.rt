@@ -1,5 +1,5 @@
 // The operation S-box.
-ghost use Rattle.std.specs.Prelude.{length};
+ghost use Rattle.std.specs.Prelude.{◌≡◌, ◌≤◌, length, take};
 ghost use Rattle.refusal.specs.Outcome.{Answered};
 ghost use Rattle.refusal.specs.Refusals.{report};
 ghost use Rattle.steps.specs.Taken.{handed};
@@ -8,6 +8,14 @@ ghost use Rattle.sbox.specs.Operations.{sbox_outcome, sbox_output};
 use crate::arguments::accept;
 use refusal::Refusal;
 use steps::Taken;
+
+// Copies the first shares out.
+fn store(shares: &[u8], out: &mut [u8])
+    requires { length out.old ≤ length shares.now }
+    ensures { out.new ≡ take (length out.old) shares.now }
+{
+    out.copy_from_slice(&shares[..out.len()]);
+}
 
 // The masked S-box of s shares, 1 to 9, by a record. `out` takes the shares of the result.
 // It hands back how many masked products, random bytes and steps it took.
@@ -25,6 +33,6 @@ pub fn sbox(
     let fits = out.len() == s as usize;
     let call = accept(bytes, s, shares, random, fits)?;
     let (result, counts) = call.unwatched();
-    out.copy_from_slice(&result[..out.len()]);
+    store(&result, out);
     Ok(counts.taken(call.record.layout.width))
 }

@@ -21,6 +21,23 @@ exec_bind (step t v m) f s = exec_bind m f (recorded v s)
 exec_bind (draw b g) f s = exec_bind (g (next_of s)) f (drawn s)
 exec_bind (mark m) f s = exec_bind m f (begun s)
 
+-- the same where it is known where each of them ends
+pub then_runs : {A B : Type 0} (m : Run A) (f : A → Run B) (s : State) {x : A} {s' : State} {e : Ended B} → exec m s ≡ record { result = x; state = s' }
+    → exec (f x) s' ≡ e → exec (m >>= f) s ≡ e
+then_runs m f s p q = exec_bind m f s ∙ rw p q
+
+-- a program that only ends
+pub return_runs : {A : Type 0} {x y : A} (s : State) → x ≡ y → exec (return y) s ≡ record { result = x; state = s }
+unfolding exec
+return_runs s e = rw e
+
+-- a masked product begins
+pub mark_runs : {A : Type 0} (m : Run A) (s : State) {e : Ended A} → exec m (begun s) ≡ e → exec (mark m) s ≡ e
+unfolding exec
+mark_runs m s p = p
+
+-- ---- what a run leaves as it was
+
 pub after_first : {s : State} → After s s
 after_first =
     record { same_tape = refl; same_watch = refl; same_places = refl; products = omega arith; draws = omega arith; steps = omega arith }

@@ -6,7 +6,7 @@ use native.Mathlib.Nat.{not-suc-le-zero, le_of_suc-le-suc}
 use native.Mathlib.Numerals.{add-one}
 use native.Mathlib.Omega.{arith}
 use lib.ListN.{length, get_or, drop, set, replicate, length-append, length-drop, drop_of_length-le, get_or-append}
-use lib.Seq.{drop-cons, set_at, get_or-append-add, get_or-drop}
+use lib.Seq.{drop-cons, set_at, get_or-append-add, get_or-drop, paste, take_at, take-length}
 use Rattle.std.proofs.lemmas.List.{length-reverse, get_or-reverse, drop-replicate}
 use Rattle.steps.specs.Fill.{tabulate, fill, padded}
 
@@ -96,6 +96,13 @@ get_or_fill_past n f l i d h =
     ∙ get_or-append-add (tabulate n f) (drop n l) (i - n) d
     ∙ get_or-drop n l (i - n) d
     ∙ ap (λ (p : ℕ). get_or l p d) back
+
+-- a buffer that is filled to n, and whose rest is a copy of another list
+pub fill_paste : (n : ℕ) (f : ℕ → ℕ) (l m : List ℕ) → n + length m ≡ length l → paste (fill n f l) n m (length m) ≡ tabulate n f ++ m
+unfolding fill
+fill_paste n f l m e =
+    let short : length (tabulate n f ++ drop n l) ≤ n + length m = simp (length-append, length_tabulate, length-drop) (omega arith) in
+    rw (take_at (tabulate n f) (drop n l) n (length_tabulate n f), take-length m, drop_of_length-le (tabulate n f ++ drop n l) short, append-nil)
 
 -- a list that is copied to the start of zeros
 pub padded_copy : (n : ℕ) (l : List ℕ) → l ++ drop (length l) (replicate n 0) ≡ padded n l

@@ -16,6 +16,7 @@ pub mod Recorder
 pub mod Tape
 pub mod Exec
 pub mod Parts
+pub mod StepsAlone
 pub mod Call
 pub mod Loop
 pub mod Bytes

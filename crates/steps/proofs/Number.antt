@@ -13,9 +13,9 @@ use Rattle.xor.specs.Xor.{◌⊕◌}
 use Rattle.xor.specs.Sum.{Small}
 use Rattle.xor.proofs.Xor.{⊕-zero, ⊕-lt, ⊕-cancel}
 use Rattle.steps.specs.Fill.{tabulate}
-use Rattle.steps.proofs.Fill.{length_tabulate, tabulate_same}
+use Rattle.steps.proofs.Fill.{length_tabulate, tabulate_same, tabulate_get_or}
 use Rattle.steps.specs.Bytes.{from_bytes, to_bytes}
-use Rattle.steps.proofs.Bytes.{⊕-block}
+use Rattle.steps.proofs.Bytes.{length_to_bytes, from_to_bytes, ⊕-block}
 use Rattle.steps.specs.ShareBytes.{bytes_at}
 
 -- eight bits more
@@ -134,6 +134,18 @@ module _ (d : List ℕ) (at : ℕ) (s : List ℕ) (w : ℕ) (hd : at + w ≤ len
       let f : at + w + q ≡ p = omega arith in
       ap (λ (k : ℕ). get_or (paste d at s w) k 0) e ∙ get_or-append-add (take at d ++ take w s) (drop (at + w) d) q 0 ∙ get_or-drop (at + w) d q 0
       ∙ ap (λ (k : ℕ). get_or d k 0) f
+
+-- the lowest w bytes of x are written, and x is there
+pub number_put : (d : List ℕ) (at w x : ℕ) → at + w ≤ length d → x < 2 ^ (8 * w) → from_bytes (bytes_at at w (paste d at (to_bytes w x) w)) ≡ x
+unfolding bytes_at
+number_put d at w x hd hx =
+    let n = length_to_bytes w x in
+    ap from_bytes
+    (tabulate_same w (λ j. get_or (paste d at (to_bytes w x) w) (at + j) 0) (λ j. get_or (to_bytes w x) j 0)
+    (λ j h. paste_there d at (to_bytes w x) w hd (omega arith) j h)
+    ∙ ap (λ (k : ℕ). tabulate k (λ j. get_or (to_bytes w x) j 0)) (sym n)
+    ∙ tabulate_get_or (to_bytes w x) 0)
+    ∙ from_to_bytes w x hx
 
 -- byte j of the lowest w
 pub get_or_to_bytes : (w x j : ℕ) → j < w → get_or (to_bytes w x) j 0 ≡ x / 2 ^ (8 * (w - 1 - j)) % 256

@@ -38,6 +38,17 @@ column_append a l n j zero = refl
 column_append a l n j (suc k) =
     ap₂ (λ (x : ℕ) (c : List ℕ). x ∷ c) (get_or-append-add a l j 0) (rw add_assoc (column_append a l n (j + n) k))
 
+-- a column's sum from its first byte on, and of no byte
+pub column_turn : (l : List ℕ) (n at k : ℕ) → 0 < k → join (column l n at k) ≡ get_or l at 0 ⊕ join (column l n (at + n) (k - 1))
+unfolding column
+column_turn l n at zero h = absurd (not-suc-le-zero h)
+column_turn l n at (suc k) h = let e : suc k - 1 ≡ k = omega arith in rw e (join_cons (get_or l at 0) (column l n (at + n) k))
+
+pub column_end : (l : List ℕ) (n at k : ℕ) → k ≤ 0 → join (column l n at k) ≡ 0
+unfolding column
+column_end l n at zero h = join_nil
+column_end l n at (suc k) h = absurd (omega arith)
+
 -- the sum of a column, and of the column that has one byte more
 pub column_none : (l : List ℕ) (n at : ℕ) → join (column l n at 0) ≡ 0
 unfolding column

@@ -1,6 +1,6 @@
 -- The laws of the recorder: what one values step and several leave, and that a whole trace leaves the watched values.
-use mathlib.Core.Path.{◌≡◌, refl, ◌∙◌}
-use mathlib.Core.Bool.{Bool, true, false, cond}
+use mathlib.Core.Path.{◌≡◌, refl, sym, ap, ◌∙◌}
+use mathlib.Core.Bool.{Bool, true, false, cond, ◌||◌}
 use mathlib.Core.List.{List, [], ◌∷◌, ◌++◌, append-nil, append_assoc}
 use Prim.Native.Nat.{ℕ, suc, ◌+◌, ◌-◌, ◌≤◌, ◌<◌}
 use native.Mathlib.Numerals.{add-one}
@@ -9,6 +9,7 @@ use borrow.Author.Tests.{eq-eqb, ne_eqb, eqb-true, eqb-false}
 use lib.Dec.{eqb}
 use lib.ListN.{length, get_or, take, drop, set, length-set, drop_of_length-le}
 use lib.Seq.{drop-cons, take-suc, take-suc-set, drop-set-lt, take_all, set-get_or}
+use Rattle.std.specs.List.{fold}
 use Rattle.steps.specs.Program.{Entry}
 use Rattle.steps.specs.Watch.{values, watched}
 use Rattle.steps.specs.Recorder.{seen, observed, AllBelow}
@@ -43,8 +44,37 @@ module _ (watch : List ℕ) (k v : ℕ) (vs : List ℕ) (i : ℕ) (hw : i < leng
   unfolding seen_from
   seen_pass e = rw (add-one, take-suc vs i 0 hv, seen_at, ne_eqb (get_or watch i 0) k e, append_assoc)
 
+-- one pass over the list finds whether a place watches the step: a number found stays found
+found_stays : (k : ℕ) (watch : List ℕ) → fold (λ any w. any || eqb w k) true watch ≡ true
+found_stays k [] = refl
+found_stays k (w ∷ watch) = found_stays k watch
+
+-- where none does, the values are as before
+pub seen_nowhere : (watch : List ℕ) (k v : ℕ) (vs : List ℕ) → fold (λ any w. any || eqb w k) false watch ≡ false → seen watch k v vs ≡ vs
+unfolding seen
+seen_nowhere [] k v vs h = refl
+seen_nowhere (w ∷ watch) k v [] h = refl
+seen_nowhere (w ∷ watch) k v (x ∷ vs) h = go (seen_nowhere watch k v vs) (eqb w k) h
+  where
+    go : (fold (λ any w. any || eqb w k) false watch ≡ false → seen watch k v vs ≡ vs)
+        → (b : Bool) → fold (λ any w. any || eqb w k) b watch ≡ false → (cond b v x ∷ seen watch k v vs) ≡ (x ∷ vs)
+    go rest true e = let z : true ≡ false = sym (found_stays k watch) ∙ e in let y : ◌≡◌ {A = ℕ} 0 1 = cc in absurd (omega arith)
+    go rest false e = ap (λ (l : List ℕ). x ∷ l) (rest e)
+
 -- what a loop over the places is proved by
 pub ruleset places_seen = (seen_none, seen_all, seen_match, seen_pass, length-set, set-get_or)
+
+-- ---- several steps in a row
+
+-- one turn of the loop that records them, and its end
+pub observed_turn : (watch : List ℕ) (k : ℕ) (es vs : List ℕ) (i : ℕ) → i < length es
+    → observed watch k (drop i es) vs ≡ observed watch (k + 1) (drop (i + 1) es) (seen watch k (get_or es i 0) vs)
+unfolding observed
+observed_turn watch k es vs i h = rw (add-one i, drop-cons es i 0 h)
+
+pub observed_end : (watch : List ℕ) (k : ℕ) (es vs : List ℕ) (i : ℕ) → length es ≤ i → observed watch k (drop i es) vs ≡ vs
+unfolding observed
+observed_end watch k es vs i h = rw (drop_of_length-le es h)
 
 -- ---- a whole trace: at each place the value of the step watched there
 

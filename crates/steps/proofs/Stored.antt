@@ -1,12 +1,12 @@
 -- The bytes of shares that lie in bytes are those bytes, and the shares that lie in the bytes of shares are those shares.
 use mathlib.Core.Path.{◌≡◌, sym, ap, ap₂, ◌∙◌}
-use mathlib.Core.List.{List, ◌∷◌, ◌++◌}
+use mathlib.Core.List.{List, ◌∷◌, ◌++◌, append-nil}
 use Prim.Native.Nat.{ℕ, zero, suc, ◌+◌, ◌*◌, ◌^◌, ◌≤◌, ◌<◌}
 use native.Mathlib.Nat.{not-suc-le-zero, le_of_suc-le-suc, zero-add, suc-add, add_assoc, add-zero, mul-zero, mul-suc}
 use native.Mathlib.Decide.{dec_lt}
 use native.Mathlib.Omega.{arith}
-use lib.ListN.{length, get_or, take, get_or-eq_default, get_or-append}
-use lib.Seq.{ext_get_or, length-take-le, get_or-take, get_or-append-add}
+use lib.ListN.{length, get_or, take, drop_of_length-le, get_or-eq_default, get_or-append}
+use lib.Seq.{ext_get_or, length-take-le, get_or-take, get_or-append-add, take-length, paste}
 use Rattle.xor.specs.Sum.{Small}
 use Rattle.steps.specs.Fill.{tabulate}
 use Rattle.steps.proofs.Fill.{length_tabulate, get_d_tabulate, tabulate_same, tabulate_get_or}
@@ -105,3 +105,9 @@ share_bytes w (suc s) f h (suc i) k =
 pub shares_of_bytes : (w s : ℕ) (f : ℕ → ℕ) → ((i : ℕ) → f i < 2 ^ (8 * w)) → shares_of w s (bytes_of w (tabulate s f)) ≡ tabulate s f
 unfolding shares_of
 shares_of_bytes w s f h = tabulate_same s (share_at w (bytes_of w (tabulate s f))) f (share_bytes w s f h)
+
+-- what is copied to the whole of a buffer
+pub pasted_whole : (d s : List ℕ) → length d ≡ length s → paste d 0 s (length s) ≡ s
+pasted_whole d s e =
+    let h : length d ≤ 0 + length s = omega arith in
+    rw (take-length s, drop_of_length-le d h) (append-nil s)

@@ -10,7 +10,7 @@ use Rattle.xor.specs.Xor.{◌⊕◌}
 use Rattle.xor.proofs.Xor.{⊕-zero}
 use Rattle.xor.proofs.Sum.{additive_below_zero}
 use Rattle.steps.specs.Fill.{tabulate, fill, padded}
-use Rattle.steps.specs.Sharing.{share}
+use Rattle.steps.specs.Sharing.{share, Filled}
 use Rattle.steps.proofs.Fill.{length_tabulate, get_d_tabulate, tabulate_same, length_fill, get_or_fill, get_or_fill_past}
 use Rattle.steps.proofs.Sharing.{share_zeros, share_padded}
 use Rattle.steps.specs.Bytes.{from_bytes}
@@ -41,6 +41,9 @@ module _ (s : ℕ) (nine : s ≤ 9) where
       go : (i : ℕ) → Dec (i < s) → share a i ≡ share (held (tabulate s f)) i
       go i (yes l) = h i l ∙ sym (share_given f i l)
       go i (no l) = k i (omega arith) ∙ sym (share_past f i (omega arith))
+
+  pub filled_given : {f : ℕ → ℕ} {a : List ℕ} → Filled f s a → a ≡ held (tabulate s f)
+  filled_given {f} {a} h = is_given f a h.places h.filled h.past
 
   pub fill_given : (f : ℕ → ℕ) → fill s f (replicate 9 0) ≡ held (tabulate s f)
   fill_given f =

@@ -20,6 +20,14 @@ one_step n = record { products = n.products; random = n.random; steps = n.steps 
 abbrev pub zero_counts : Counts
 zero_counts = record { products = 0; random = 0; steps = 0 }
 
+-- the counts of a run that has come to step number k and has taken steps alone
+abbrev pub at_step : ℕ → Counts
+at_step k = record { products = 0; random = 0; steps = k }
+
+-- the counts n with the next step's number k
+abbrev pub with_steps : Counts → ℕ → Counts
+with_steps n k = record { products = n.products; random = n.random; steps = k }
+
 -- where a run has come to: the random elements lent to it, the watch list, the counts so far, and the watched values
 pub record State : Type 0 where
   pub tape : List ℕ
@@ -66,6 +74,15 @@ pub record Ready {A : Type 0} (m : Run A) (s : State) : Type 0 where
 -- After: the program m, run from the state s, has ended in x and the state s'.
 pub record Went {A : Type 0} (m : Run A) (s : State) (x : A) (s' : State) : Type 0 where
   pub runs : exec m s ≡ record { result = x; state = s' }
+
+-- The same of a program that takes steps alone: it needs no tape, and of the counts the step number only. Before, at step number k
+abbrev pub ReadySteps : {A : Type 0} → List ℕ → Run A → ℕ → List ℕ → Type 0
+ReadySteps watch m k vs = Ready m (record { tape = []; watch = watch; counts = at_step k; values = vs })
+
+-- after, at step number k'
+abbrev pub WentSteps : {A : Type 0} → List ℕ → Run A → ℕ → List ℕ → A → ℕ → List ℕ → Type 0
+WentSteps watch m k vs x k' vs' =
+    Went m (record { tape = []; watch = watch; counts = at_step k; values = vs }) x (record { tape = []; watch = watch; counts = at_step k'; values = vs' })
 
 -- the state after the steps that record a list of elements, in order
 unfoldable pub recorded_all : List ℕ → State → State

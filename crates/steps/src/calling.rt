@@ -154,6 +154,12 @@ pub fn watch<const WIDTH: u32, const PLACES: usize, C: Ciphering<WIDTH, PLACES>>
     let fits = list_fits(list.len(), values.len());
     let count = accept(cipher, s, key, block, random, fits)?;
     refuse_past(cipher.step_count(count), list)?;
+    // Without numbers nobody watches, and no step asks a recorder.
+    if list.is_empty() {
+        let mut unwatched = Execution::<WIDTH, Unwatched>::new(random, Unwatched);
+        cipher.run(&mut unwatched, count, key, block);
+        return Ok(unwatched.counts.taken(WIDTH));
+    }
     let mut machine = Execution::<WIDTH, Watch>::new(random, Watch::new(list));
     cipher.run(&mut machine, count, key, block);
     machine.recorder.copy_to(values);

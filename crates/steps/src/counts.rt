@@ -1,6 +1,6 @@
 // The counts of a run.
 ghost use Rattle.std.specs.Prelude.{◌≡◌};
-ghost use Rattle.steps.specs.Machine.{zero_counts};
+ghost use Rattle.steps.specs.Machine.{zero_counts, with_steps};
 ghost use Rattle.steps.specs.Taken.{handed, handed_back};
 
 use crate::drawing::bytes_for;
@@ -24,6 +24,13 @@ impl Counts {
             random: 0,
             steps: 0,
         }
+    }
+
+    // These with the next step's number.
+    pub fn with_steps(self, steps: u32) -> Counts
+        ensures { result ≡ with_steps self steps }
+    {
+        Counts { steps, ..self }
     }
 
     // What a call hands back of these, where a random element has so many bits.

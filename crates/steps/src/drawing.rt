@@ -37,6 +37,15 @@ pub fn bytes_for(width: u32, count: usize) -> usize
     count - more * (count / 2)
 }
 
+// How many random elements of `width` bits the bytes hold, where each holds one.
+#[tactic(auto, using(crate::proofs::Tape::elements_one))]
+pub fn element_count(width: u32, random: &[u8]) -> usize
+    requires { eqb width 4 ≡ false }
+    ensures { result ≡ length (elements width random.now) }
+{
+    random.len()
+}
+
 // The test that all random elements are below the bound, where each byte holds one: the refusal names the first that is not, by its place counted
 // from `from`.
 #[tactic(auto, using(crate::proofs::Tape::elements_one))]

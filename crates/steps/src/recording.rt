@@ -69,12 +69,19 @@ impl Recorder for Watch<'_> {
     }
 }
 
-// v goes to each place whose watched number is `step`. By index over the list: nothing is known of what `iter_mut` writes under a `zip`.
+// Step number `step` records v: it goes to each place of the list that has this number. The list may be of any length. Most steps are named nowhere: a
+// pass that no number ends finds that, many at once, and writes nothing. Else by index over the list: nothing is known of what `iter_mut` writes under a `zip`.
 #[tactic(auto, using(crate::proofs::Recorder::places_seen))]
-fn observe(list: &[u32], values: &mut [u8], step: u32, v: u8)
+pub fn observe(list: &[u32], values: &mut [u8], step: u32, v: u8)
     requires { length list.now ≡ length values.old }
     ensures { values.new ≡ seen list.now step v values.old }
 {
+    if !list
+        .iter()
+        .fold(false, |any, number| any | (*number == step))
+    {
+        return;
+    }
     for (k, value) in values.iter_mut().enumerate() {
         if list[k] == step {
             *value = v;

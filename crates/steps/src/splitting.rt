@@ -21,8 +21,19 @@ pub fn split(value: &[u8], s: u32, masks: &[u8], out: &mut [u8]) -> Result<(), R
     refuse_unless(lengths_fit(n, s, masks.len(), out.len()), Refusal::Length)?;
     let (first, rest) = out.split_at_mut(n);
     first_share(value, s.count - 1, masks, first);
-    rest.copy_from_slice(masks);
+    copy_masks(masks, rest);
     Ok(())
+}
+
+// Writes the other shares, the masks. By index: the library's copy may be a call of C's `memmove`, which the archive would need from outside.
+#[tactic(auto, using(crate::proofs::Fill::fills))]
+fn copy_masks(masks: &[u8], out: &mut [u8])
+    requires { length out.old ≡ length masks.now }
+    ensures { out.new ≡ masks.now }
+{
+    for (j, byte) in out.iter_mut().enumerate() {
+        *byte = masks[j];
+    }
 }
 
 // Whether value, masks and out, of so many bytes, have the lengths for so many shares.

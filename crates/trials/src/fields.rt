@@ -1,29 +1,30 @@
 // The fields of a case file: each is a length in 4 bytes, then that many bytes. Numbers are big-endian.
-use std::alloc::{AllocError, Global};
+ghost use Rattle.std.specs.Prelude.{◌≡◌, length, IfOk};
+
 use thiserror::Error;
 
 // No slice of a case is longer.
-const LONGEST: usize = 65536;
+pub const LONGEST: usize = 65536;
+
+// No list of numbers of 4 bytes is longer.
+pub const LONGEST_LIST: usize = 16384;
 
 // Why a case cannot be tried.
 #[derive(Debug, Drop, Error)]
 pub enum FieldError {
     #[error("the file is malformed")]
     Malformed,
-    #[error(transparent)]
-    Memory(#[from] AllocError),
 }
 
-// Reads the fields of a file one after the other.
+// Reads the fields of a file one after the other. A slice that an operation is lent is written to an area of the caller's.
 #[derive(Drop)]
 pub struct Fields<'a> {
     rest: &'a [u8],
-    alloc: Global,
 }
 
 impl<'a> Fields<'a> {
-    pub fn new(alloc: Global, file: &'a [u8]) -> Fields<'a> {
-        Fields { rest: file, alloc }
+    pub fn new(file: &'a [u8]) -> Fields<'a> {
+        Fields { rest: file }
     }
 
     // Whether all is read.
@@ -60,28 +61,39 @@ impl<'a> Fields<'a> {
     }
 
     // A field that is a list of numbers of 4 bytes.
-    pub fn list(&mut self) -> Result<Vec<u32>, FieldError> {
+    pub fn list<'b>(&mut self, area: &'b mut [u32]) -> Result<&'b [u32], FieldError> {
         match self.bytes()?.as_chunks() {
-            (numbers, []) => Ok(
-                numbers
-                    .iter()
-                    .map(|number| u32::from_be_bytes(*number))
-                    .collect(self.alloc)?,
-            ),
+            (numbers, []) => {
+                let list = start_of(area, numbers.len())?;
+                for (place, number) in list.iter_mut().zip(numbers) {
+                    *place = u32::from_be_bytes(*number);
+                }
+                Ok(list)
+            }
             _ => Err(FieldError::Malformed),
         }
     }
 
     // A slice that an operation is lent for writing.
-    pub fn lent(&mut self) -> Result<Vec<u8>, FieldError> {
-        Ok(Vec::from_slice(self.alloc, self.bytes()?)?)
+    pub fn lent<'b>(&mut self, area: &'b mut [u8]) -> Result<&'b mut [u8], FieldError> {
+        let bytes = self.bytes()?;
+        let lent = start_of(area, bytes.len())?;
+        lent.copy_from_slice(bytes);
+        Ok(lent)
     }
 
-    // A slice filled with one byte, for which the byte stands, then the slice's length.
-    pub fn filled(&mut self) -> Result<Vec<u8>, FieldError> {
+    // A slice filled with one byte.
+    pub fn lent_filled<'b>(&mut self, area: &'b mut [u8]) -> Result<&'b mut [u8], FieldError> {
+        let (byte, length) = self.filled()?;
+        let lent = start_of(area, length)?;
+        lent.fill(byte);
+        Ok(lent)
+    }
+
+    // A field that stands for a slice filled with one byte: the byte, then the slice's length.
+    pub fn filled(&mut self) -> Result<(u8, usize), FieldError> {
         let [byte, a, b, c, d]: [u8; 5] = *self.array()?;
-        let length = checked_length(u32::from_be_bytes([a, b, c, d]))?;
-        Ok(vec![in self.alloc; byte; length]?)
+        Ok((byte, checked_length(u32::from_be_bytes([a, b, c, d]))?))
     }
 
     // An answer: its four words.
@@ -101,4 +113,12 @@ fn checked_length(length: u32) -> Result<usize, FieldError> {
         return Err(FieldError::Malformed);
     }
     Ok(length)
+}
+
+// The first n elements of an area.
+fn start_of<T>(area: &mut [T], n: usize) -> Result<&mut [T], FieldError>
+    ensures { IfOk result (λ start. length start.now ≡ n) }
+{
+    let (start, _) = area.split_at_mut_checked(n).ok_or(FieldError::Malformed)?;
+    Ok(start)
 }

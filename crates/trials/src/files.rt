@@ -1,12 +1,14 @@
 // Trying the cases of a file, and what is printed of it.
+ghost use Rattle.std.specs.Prelude.{◌≤◌, length, IfOk};
+
 use crate::fields::{FieldError, Fields};
-use std::alloc::Global;
+use std::io::Read;
 use std::rt::Files;
 use std::{fmt, fs, io};
 use thiserror::Error;
 
 // All case files are shorter.
-const TOO_LONG: usize = 393216;
+pub const TOO_LONG: usize = 393216;
 
 // Why the cases of a file cannot be tried.
 #[derive(Debug, Drop, Error)]
@@ -25,7 +27,6 @@ impl FileError {
     fn at(case: u32, error: FieldError) -> FileError {
         match error {
             FieldError::Malformed => FileError::Malformed { case },
-            FieldError::Memory(error) => FileError::Io(error.into()),
         }
     }
 }
@@ -50,13 +51,12 @@ impl fmt::Display for Tally {
 
 // Tries every case of a file. It begins with the number of cases.
 fn try_cases<F: Fn(&mut Fields) -> Result<bool, FieldError>>(
-    alloc: Global,
     file: &[u8],
     trial: F,
 ) -> Result<Tally, FileError>
     requires { F.IsAlwaysCallable trial }
 {
-    let mut fields = Fields::new(alloc, file);
+    let mut fields = Fields::new(file);
     let cases = fields.word().map_err(|error| FileError::at(0, error))?;
     let mut agreed = 0;
     let mut first = None;
@@ -77,25 +77,49 @@ fn try_cases<F: Fn(&mut Fields) -> Result<bool, FieldError>>(
     })
 }
 
-// Reads a file of cases.
-fn read_cases<R: Files + AllocGlobal>(rt: &R, path: &str) -> Result<Vec<u8>, FileError> {
-    let file = fs::read(rt, path)?;
-    if TOO_LONG <= file.len() {
-        return Err(FileError::TooLong);
+// Fills the space from a file, as far as the file goes, and answers how many bytes those are.
+fn read_full(rt: &impl Files, path: &str, space: &mut [u8]) -> io::Result<usize>
+    ensures { IfOk result (λ n. n ≤ length space.old) }
+{
+    let mut file = fs::open(rt, path)?;
+    let mut n = 0;
+    for _ in 0..space.len() {
+        let more = file.read(&mut space[n..])?;
+        if more == 0 {
+            return Ok(n);
+        }
+        n += more;
     }
-    Ok(file)
+    Ok(n)
 }
 
-// Tries the cases of a file, and prints a line. Answers whether all agree.
-pub fn try_file<
-    R: Files + AllocGlobal + Print + Eprint,
-    F: Fn(&mut Fields) -> Result<bool, FieldError>,
->(rt: &R, name: &str, trial: F) -> io::Result<bool>
+// Reads a file of cases. No more of it is read than the space holds, so one without an end is too long.
+fn read_cases<'a, R: Files>(
+    rt: &R,
+    path: &str,
+    space: &'a mut [u8],
+) -> Result<&'a [u8], FileError> {
+    let n = read_full(rt, path, &mut *space)?;
+    if n == space.len() {
+        return Err(FileError::TooLong);
+    }
+    Ok(&space[..n])
+}
+
+// Tries the cases of a file, which is read into the space, and prints a line. Answers whether all agree.
+// Not inlined: else the areas of an operation would lie in the frame of `main` beside those of a further call.
+#[inline(never)]
+pub fn try_file<R: Files + Print + Eprint, F: Fn(&mut Fields) -> Result<bool, FieldError>>(
+    rt: &R,
+    name: &str,
+    path: &str,
+    space: &mut [u8],
+    trial: F,
+) -> io::Result<bool>
     requires { F.IsAlwaysCallable trial }
 {
-    let path = format!(in rt.alloc(); "{name}.cases")?;
-    let tally = match read_cases(rt, &path) {
-        Ok(file) => try_cases(rt.alloc(), &file, trial),
+    let tally = match read_cases(rt, path, space) {
+        Ok(file) => try_cases(file, trial),
         Err(error) => Err(error),
     };
     match tally {

@@ -1,6 +1,6 @@
 // How a case is tried whose arguments are read: the slices that the operation is lent for writing follow, then its answer, and what
 // the slices hold afterwards. Answers whether all agree.
-use crate::fields::{FieldError, Fields};
+use crate::fields::{FieldError, Fields, LONGEST};
 use refusal::{HandedBack, Refusal, answer_words};
 
 // Tries an operation that only reads.
@@ -19,11 +19,12 @@ pub fn try_writing<T: HandedBack, F: FnOnce(&mut [u8]) -> Result<T, Refusal>>(
 ) -> Result<bool, FieldError>
     requires { F.IsAlwaysCallable operation }
 {
-    let mut out = fields.lent()?;
-    let answer = answer_words(operation(&mut out));
+    let mut area = [0u8; LONGEST];
+    let out = fields.lent(&mut area)?;
+    let answer = answer_words(operation(&mut *out));
     let expected = fields.answer()?;
     let written = fields.bytes()?;
-    Ok(answer == expected && out.as_slice() == written)
+    Ok(answer == expected && *out == *written)
 }
 
 // Tries an operation that writes to a work space, filled with one byte before and after, and to one slice.
@@ -33,11 +34,14 @@ pub fn try_fitting<F: FnOnce(&mut [u8], &mut [u8]) -> Result<(), Refusal>>(
 ) -> Result<bool, FieldError>
     requires { F.IsAlwaysCallable operation }
 {
-    let mut work = fields.filled()?;
-    let mut out = fields.lent()?;
-    let answer = answer_words(operation(&mut work, &mut out));
+    let mut work_area = [0u8; LONGEST];
+    let mut out_area = [0u8; LONGEST];
+    let work = fields.lent_filled(&mut work_area)?;
+    let out = fields.lent(&mut out_area)?;
+    let answer = answer_words(operation(&mut *work, &mut *out));
     let expected = fields.answer()?;
-    let worked = fields.filled()?;
+    let (byte, length) = fields.filled()?;
     let written = fields.bytes()?;
-    Ok(answer == expected && work == worked && out.as_slice() == written)
+    let worked = work.len() == length && work.iter().all(|x| *x == byte);
+    Ok(answer == expected && worked && *out == *written)
 }

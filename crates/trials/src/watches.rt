@@ -1,5 +1,5 @@
 // Cases of the watches. The list of steps is the last argument before the slice for their values.
-use crate::fields::{FieldError, Fields};
+use crate::fields::{FieldError, Fields, LONGEST_LIST};
 use crate::masked::Shares;
 use crate::trials::try_writing;
 
@@ -8,9 +8,10 @@ pub fn try_sbox_watch(fields: &mut Fields) -> Result<bool, FieldError> {
     let s = fields.number()?;
     let shares = fields.bytes()?;
     let random = fields.bytes()?;
-    let steps = fields.list()?;
+    let mut list = [0u32; LONGEST_LIST];
+    let steps = fields.list(&mut list)?;
     try_writing(fields, |values| {
-        sbox::watch_sbox(record, s, shares, random, &steps, values)
+        sbox::watch_sbox(record, s, shares, random, steps, values)
     })
 }
 
@@ -22,9 +23,10 @@ pub fn try_block_watch(fields: &mut Fields) -> Result<bool, FieldError> {
         block,
         random,
     } = Shares::read(fields)?;
-    let steps = fields.list()?;
+    let mut list = [0u32; LONGEST_LIST];
+    let steps = fields.list(&mut list)?;
     try_writing(fields, |values| {
-        cipher::watch_block(record, s, key, block, random, &steps, values)
+        cipher::watch_block(record, s, key, block, random, steps, values)
     })
 }
 
@@ -37,9 +39,10 @@ pub fn try_open_watch(fields: &mut Fields) -> Result<bool, FieldError> {
         block,
         random,
     } = Shares::read(fields)?;
-    let steps = fields.list()?;
+    let mut list = [0u32; LONGEST_LIST];
+    let steps = fields.list(&mut list)?;
     try_writing(fields, |values| {
-        cipher::watch_open(record, inverse, s, key, block, random, &steps, values)
+        cipher::watch_open(record, inverse, s, key, block, random, steps, values)
     })
 }
 
@@ -50,8 +53,9 @@ pub fn try_aes_block_watch(fields: &mut Fields) -> Result<bool, FieldError> {
         block,
         random,
     } = Shares::read(fields)?;
-    let steps = fields.list()?;
+    let mut list = [0u32; LONGEST_LIST];
+    let steps = fields.list(&mut list)?;
     try_writing(fields, |values| {
-        aes::watch_block(s, key, block, random, &steps, values)
+        aes::watch_block(s, key, block, random, steps, values)
     })
 }

@@ -21,7 +21,7 @@ pub trait Direction {
 
     // The keys of the rounds.
     fn round_keys(key: Key) -> [u64; 32]
-        ensures { result ≡ schedule (held key) };
+        ensures { result ≡ schedule (held size80 key) };
 
     // What becomes of a block, by the keys of the rounds.
     fn process(keys: &[u64; 32], x: u64) -> u64

@@ -13,6 +13,6 @@ unfolding headed
 returns c =
     let n = length c.args.basis.now in
     let behind : 7 + n - 7 ≡ n = omega arith in
-    rw (c.copy_from_slice.ensures.after, c.copy_from_slice-2.ensures.after)
+    rw (c.copy_from_slice.ensures.after, c.copy_row.ensures)
     (ap (λ (l : List ℕ). 68 ∷ 67 ∷ 80 ∷ 0 ∷ 2 ∷ c.args.width ∷ c.args.outputs ∷ (c.args.basis.now ++ l))
     (ap (λ (k : ℕ). drop k (drop 7 c.args.out.now)) behind ∙ drop-drop n 7 c.args.out.now))

@@ -9,7 +9,6 @@ use Rattle.refusal.specs.Outcome.{done}
 use Rattle.refusal.proofs.Outcome.{refuses, succeeds}
 use Rattle.refusal.proofs.Exits.{reports}
 use Rattle.steps.specs.Taken.{handed}
-use lib.Seq.{length-take-le}
 use Rattle.steps.specs.Fill.{tabulate}
 use Rattle.steps.specs.Sharing.{share}
 use Rattle.steps.specs.Machine.{Whole}
@@ -34,18 +33,8 @@ past c =
     (p.0, eqb-true _ _ p.1)
 
 -- the result has a place for each share
-pub slice_bounds-result-end : goal.slice_bounds-result-end
-slice_bounds-result-end c = let p = past (goal.at.slice_bounds-result-end c).In_ok-call in omega (arith, p.1, p.0.nine, c.unwatched.type_inv)
-
-pub slice_bounds-copy_from_slice-end : goal.slice_bounds-copy_from_slice-end
-slice_bounds-copy_from_slice-end c =
-    let p = past (goal.at.slice_bounds-copy_from_slice-end c).In_ok-call in
-    sym (length-take-le _ _ (omega (arith, p.1, p.0.nine, c.unwatched.type_inv)))
-
-pub copy_from_slice-requires : goal.copy_from_slice-requires
-copy_from_slice-requires c =
-    let p = past (goal.at.copy_from_slice-requires c).In_ok-call in
-    sym (length-take-le _ _ (omega (arith, p.1, p.0.nine, c.unwatched.type_inv)))
+pub store-requires : goal.store-requires
+store-requires c = let p = past (goal.at.store-requires c).In_ok-call in omega (arith, p.1, p.0.nine, c.unwatched.type_inv)
 
 pub returns : goal.returns
 unfolding sbox_outcome sbox_call call_outcome
@@ -55,5 +44,5 @@ returns c =
     let whole = at_call call (λ tape m. Whole tape m c.unwatched.result.0 c.unwatched.result.1) c.unwatched.ensures in
     let taken = rw (width_is c.args.bytes.now call.layout) at c.taken.ensures in
     succeeds (rw (← c.in_ok-call.ensures.outcome) (ap done (call_counts_lem p.0 whole ∙ sym taken)))
-    (c.copy_from_slice.ensures.after ∙ first_shares _ _ (omega (arith, p.1, p.0.nine, c.unwatched.type_inv))
+    (c.store.ensures ∙ first_shares _ _ (omega (arith, p.1, p.0.nine, c.unwatched.type_inv))
     ∙ ap (λ (n : ℕ). tabulate n (share c.unwatched.result.0)) p.1 ∙ call_output p.0 whole)

@@ -46,11 +46,11 @@ overflow_sub-s c = let f = fits (goal.at.overflow_sub-s c).In_ok-refuse_unless i
 pub first_share-requires : goal.first_share-requires
 first_share-requires c = let f = fits (goal.at.first_share-requires c).In_ok-refuse_unless in omega arith
 
-pub copy_from_slice-requires : goal.copy_from_slice-requires
-copy_from_slice-requires c = let f = fits (goal.at.copy_from_slice-requires c).In_ok-refuse_unless in omega arith
+pub copy_masks-requires : goal.copy_masks-requires
+copy_masks-requires c = let f = fits (goal.at.copy_masks-requires c).In_ok-refuse_unless in omega arith
 
 pub returns : goal.returns
 unfolding split_outcome split_shares
 returns c =
     counted_done _ _ c.in_ok-s.ensures.1 (passed (goal.at.returns c).In_ok-refuse_unless)
-    (ap₂ ◌++◌ (rw c.in_ok-s.ensures.0 at c.first_share.ensures) c.copy_from_slice.ensures.after)
+    (ap₂ ◌++◌ (rw c.in_ok-s.ensures.0 at c.first_share.ensures) c.copy_masks.ensures)

@@ -7,15 +7,16 @@ use Rattle.cipher.proofs.Nibbles.{nibble_prepared, nibble_substituted, nibble_gi
 use Rattle.steps.specs.ShareBytes.{sharing}
 use Rattle.cipher.proofs.nibble_box.NibbleBox.substitute.Goals as goal
 
-pub run-y-requires : goal.run-y-requires
+pub run-y-requires-clause-of_pair : goal.run-y-requires-clause-of_pair
 unfolding layout sized
-run-y-requires g c =
+run-y-requires-clause-of_pair g c =
+    rw (c.args.self.now.four, layout_width 4 4, layout_outputs 4 4) (record { pair = same_pair 4 refl; layout_is = refl })
+
+pub run-y-requires-clause-ready : goal.run-y-requires-clause-ready
+run-y-requires-clause-ready g c =
     rw (c.args.self.now.four, layout_width 4 4, layout_outputs 4 4)
-    record {
-      of_pair = record { pair = same_pair 4 refl; layout_is = refl };
-      ready = (nibble_prepared (sbox_of c.args.self.now c.args.s.shares.count) c.args.k (sharing c.args.w c.args.s.shares.count c.args.l.now) _
-          c.column-x.ensures c.requires.prepared).ready;
-    }
+    (nibble_prepared (sbox_of c.args.self.now c.args.s.shares.count) c.args.k (sharing c.args.w c.args.s.shares.count c.args.l.now) _
+    c.column-x.ensures c.requires.prepared).ready
 
 pub replace_column-requires-clause-v_sharing : goal.replace_column-requires-clause-v_sharing
 replace_column-requires-clause-v_sharing g c =

@@ -1,6 +1,6 @@
 -- `Input::factor` meets its contract: by the test on the number of the polynomial.
 use mathlib.Core.Path.{refl}
-use Prim.Native.Nat.{◌<◌, ◌≤◌, suc}
+use Prim.Native.Nat.{◌≤◌, suc}
 use native.Mathlib.Omega.{arith}
 use borrow.Author.Tests.{le-ltb, lt-ltb}
 use Rattle.decomposition.specs.Form.{factor}

@@ -14,7 +14,7 @@ use Rattle.sbox.proofs.calling.AcceptedCall.substitute.Goals as goal
 -- the program goes by the shares alone
 same_program : (L : Layout) (cs : List ℕ) (s : ℕ) (shares : List ℕ) → layout_program L cs s (padded 9 shares) ≡ layout_program L cs s shares
 same_program L cs s shares =
-    sbox_same L.width s (padded 9 shares) shares (share_padded shares (9 - length shares)) (basis_in L.width L.outputs cs) (solution_in L.width L.outputs cs)
+    sbox_same L.width s (padded 9 shares) shares (λ i h. share_padded shares (9 - length shares) i) (basis_in L.width L.outputs cs) (solution_in L.width L.outputs cs)
 
 pub run-requires-clause-ready : goal.run-requires-clause-ready
 run-requires-clause-ready g c =

@@ -27,7 +27,7 @@ loop-k-preserved c =
 pub returns : goal.returns
 unfolding inverse_keys round_keys
 returns c =
-    let key : ℕ → ℕ = round_key_of size80 (held c.args.key) in
+    let key : ℕ → ℕ = round_key_of size80 (held size80 c.args.key) in
     let keys = c.round_keys-keys.result in
     let size : length keys ≡ 32 = ap length c.round_keys-keys.ensures ∙ length_tabulate 32 (λ r. key (r + 1)) in
     let met : c.loop-k.k-items ≡ tabulate 32 (λ r. unpermute (key (r + 1))) =

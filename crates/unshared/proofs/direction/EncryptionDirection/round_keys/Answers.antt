@@ -13,17 +13,17 @@ use Rattle.unshared.proofs.direction.EncryptionDirection.round_keys.Goals as goa
 
 pub loop-r-init : goal.loop-r-init
 loop-r-init c =
-    let k = held c.args.key in
+    let k = held size80 c.args.key in
     let first : k ≡ iterate 1 1 (update_key size80) k = sym (iterate_none 1 (update_key size80) k) in
-    (first, fill_first _ _ (round_key_is k 1 c.args.key (search rules) first))
+    (first, fill_first _ _ (round_key_is size80 k 1 c.args.key (search rules) first))
 
 pub loop-r-preserved : goal.loop-r-preserved
 loop-r-preserved c =
-    let k = held c.args.key in
-    let next : held c.update-key.result ≡ iterate 1 (c.loop-r.r + 1) (update_key size80) k =
+    let k = held size80 c.args.key in
+    let next : held size80 c.update-key.result ≡ iterate 1 (c.loop-r.r + 1) (update_key size80) k =
     c.update-key.ensures ∙ ap (update_key size80 c.loop-r.r) c.loop-r.invariant.0 ∙ sym (iterate_next 1 c.loop-r.r (update_key size80) k c.loop-r.auto.r) in (
       next,
-      rw (c.loop-r.invariant.1, round_key_is k (c.loop-r.r + 1) c.update-key.result (search rules) next) (fill_more _ _ _ (search rules)),
+      rw (c.loop-r.invariant.1, round_key_is size80 k (c.loop-r.r + 1) c.update-key.result (search rules) next) (fill_more _ _ _ (search rules)),
     )
 
 pub returns : goal.returns

@@ -13,4 +13,4 @@ abbrev pub listed : ℕ → ℕ → ℕ
 listed k r = round_key_of size80 k (r + 1)
 
 abbrev pub invariant-loop-r : goal.invariant-loop-r
-invariant-loop-r l = (held l.key ≡ iterate 1 l.r (update_key size80) (held l.initial.key)) × (l.keys ≡ fill l.r (listed (held l.initial.key)) l.initial.keys)
+invariant-loop-r l = (held size80 l.key ≡ iterate 1 l.r (update_key size80) (held size80 l.initial.key)) × (l.keys ≡ fill l.r (listed (held size80 l.initial.key)) l.initial.keys)
